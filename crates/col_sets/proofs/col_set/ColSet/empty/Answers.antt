@@ -1,0 +1,5 @@
+use Rattle.col_sets.proofs.ColSets.{no_members}
+use Rattle.col_sets.proofs.col_set.ColSet.empty.Goals as goal
+
+pub returns : goal.returns
+returns c = no_members

@@ -1,0 +1,6 @@
+pub mod Sets
+pub mod Tests
+pub mod Columns
+pub mod Members
+pub mod Inverse
+pub mod Keys

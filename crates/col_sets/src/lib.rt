@@ -1,0 +1,17 @@
+//! Sets of columns, and the lists of columns by which rows are keyed and ordered.
+//!
+//! A set is seen by contracts as the ascending list of its members, which are below 128. Nothing here takes memory.
+#![tactic(auto)]
+
+mod col_set;
+mod dir;
+mod key_cols;
+mod key_orders;
+
+pub use col_set::{ColId, ColSet};
+pub use dir::Dir;
+pub use key_cols::KeyCols;
+pub use key_orders::KeyOrders;
+
+#[cfg(test)]
+mod tests;
