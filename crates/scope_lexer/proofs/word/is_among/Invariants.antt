@@ -1,0 +1,12 @@
+use Rattle.std.proofs.Common.{◌≡◌, length, map}
+use Rattle.std.specs.List.{list_any}
+use Rattle.std.specs.Str.{str_eq_ignore_ascii_case}
+use Rattle.scope_lexer.proofs.word.is_among.Given as goal
+
+abbrev pub invariant-loop-words : goal.invariant-loop-words
+invariant-loop-words l =
+    list_any (λ k. str_eq_ignore_ascii_case k l.word) (map (λ k. k.now) l.words)
+    ≡ list_any (λ k. str_eq_ignore_ascii_case k l.word) (map (λ k. k.now) l.initial.words)
+
+abbrev pub decreases-loop-words : goal.decreases-loop-words
+decreases-loop-words l = length l.words

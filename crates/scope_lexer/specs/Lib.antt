@@ -1,0 +1,4 @@
+pub mod Bytes
+pub mod Begins
+pub mod Tokens
+pub mod Laws
