@@ -1,0 +1,4 @@
+mod ExprLemmas
+mod FitLemmas
+mod RawLemmas
+mod ScopeLemmas
