@@ -1,0 +1,2 @@
+pub mod NoRows
+pub mod Places

@@ -1,0 +1,266 @@
+// The set of operators that a caller hands in, and how clauses speak of what its objects tell.
+ghost use Rattle.std.specs.Prelude.{◌≡◌, ◌++◌, ◌<◌, ◌∷◌, [], ◌↔◌, OnOk, OnErr, IfSome, IfErr, IsErrAnd, Contains, length, slice_get, Some};
+ghost use Rattle.std.specs.Str.{bytes_eq};
+ghost use Rattle.std.specs.List.{position};
+
+use crate::add_fault::AddFault;
+use crate::combiner::Combiner;
+use crate::extractor::Extractor;
+use crate::processor::Processor;
+use crate::reducer::Reducer;
+use scope_value::Cell;
+use std::alloc::Global;
+
+// An operator under its name.
+#[derive(Drop)]
+struct Named<T> {
+    name: Cell,
+    op: T,
+}
+
+/// The operators that a caller hands in, each in its box and under a name of its own within its kind. They have places
+/// there, counted from 0 in the order of adding within each kind.
+#[derive(Drop)]
+pub struct OpSet {
+    extractors: Vec<Named<Box<dyn Extractor>>>,
+    processors: Vec<Named<Box<dyn Processor>>>,
+    reducers: Vec<Named<Box<dyn Reducer>>>,
+    combiners: Vec<Named<Box<dyn Combiner>>>,
+}
+
+// The first place that has the name.
+fn place_of<T>(named: &[Named<T>], name: &[u8]) -> Option<usize>
+    ensures is { result ≡ position (λ n. bytes_eq n.name name.now) named.now }
+    ensures within { IfSome result (λ place. place < length named.now) }
+{
+    named.iter().position(|n| n.name.as_slice() == name)
+}
+
+/// What a set of operators tells, in ghost code alone.
+///
+/// A clause writes `⟦<OpSet as Tells>⟧.tells ops.now`, a record of lists that names no box: for each kind the names and,
+/// at the same places, what the objects tell. Code that needs the meanings alone is generic in `O: Tells` and writes
+/// `O.tells ops.now`.
+pub trait Tells {
+    ghost use Rattle.user_ops.specs.Told.{Operators};
+
+    ghost tells: { Self → Operators };
+}
+
+impl Tells for OpSet {
+    ghost use Rattle.std.specs.Prelude.{map};
+
+    ghost tells = { λ s. record {
+      extractor_names = map (λ n. n.name) s.extractors.items;
+      extractors = map (λ n. (Extractor-box n.op).told_extractor n.op.value) s.extractors.items;
+      processor_names = map (λ n. n.name) s.processors.items;
+      processors = map (λ n. (Processor-box n.op).told_processor n.op.value) s.processors.items;
+      reducer_names = map (λ n. n.name) s.reducers.items;
+      reducers = map (λ n. (Reducer-box n.op).told_reducer n.op.value) s.reducers.items;
+      combiner_names = map (λ n. n.name) s.combiners.items;
+      combiners = map (λ n. (Combiner-box n.op).told_combiner n.op.value) s.combiners.items;
+    } };
+}
+
+impl OpSet {
+    /// A set of no operators.
+    pub fn new(alloc: Global) -> OpSet
+        ensures { ⟦<OpSet as Tells>⟧.tells result ≡ record {
+          extractor_names = [];
+          extractors = [];
+          processor_names = [];
+          processors = [];
+          reducer_names = [];
+          reducers = [];
+          combiner_names = [];
+          combiners = [];
+        } }
+    {
+        OpSet {
+            extractors: Vec::new(alloc),
+            processors: Vec::new(alloc),
+            reducers: Vec::new(alloc),
+            combiners: Vec::new(alloc),
+        }
+    }
+
+    /// Adds an extractor at the end of its kind. A refusal hands the box back and changes nothing: `Duplicate` exactly where the
+    /// set has an extractor of that name, and else want of memory.
+    pub fn add_extractor(
+        &mut self,
+        name: Cell,
+        op: Box<dyn Extractor>,
+    ) -> Result<(), (Box<dyn Extractor>, AddFault)>
+        ensures ok { let old = ⟦<OpSet as Tells>⟧.tells self.old in
+            OnOk result (⟦<OpSet as Tells>⟧.tells self.new ≡ record old {
+              extractor_names = old.extractor_names ++ name ∷ [];
+              extractors = old.extractors ++ told_extractor op ∷ [];
+            }) }
+        ensures handed_back { IfErr result (λ e. e.0 ≡ op) }
+        ensures unchanged { OnErr result (⟦<OpSet as Tells>⟧.tells self.new ≡ ⟦<OpSet as Tells>⟧.tells self.old) }
+        ensures duplicate { IsErrAnd result (λ e. e.1 ≡ AddFault.Duplicate)
+            ↔ Contains (⟦<OpSet as Tells>⟧.tells self.old).extractor_names name }
+    {
+        if self.find_extractor(name.as_slice()).is_some() {
+            return Err((op, AddFault::Duplicate));
+        }
+        match self.extractors.push(Named { name, op }) {
+            Ok(()) => Ok(()),
+            Err(e) => {
+                let Named { name: _, op } = e.value;
+                Err((op, AddFault::NoMemory))
+            }
+        }
+    }
+
+    /// The place of the extractor of that name, or None exactly where the set has none.
+    pub fn find_extractor(&self, name: &[u8]) -> Option<usize>
+        ensures is { result ≡ position (λ n. bytes_eq n name.now) (⟦<OpSet as Tells>⟧.tells self.now).extractor_names }
+        ensures within { IfSome result (λ place. place < length (⟦<OpSet as Tells>⟧.tells self.now).extractors) }
+    {
+        place_of(self.extractors.as_slice(), name)
+    }
+
+    /// The extractor at a place, where one stands.
+    pub fn extractor_at(&self, place: usize) -> &Box<dyn Extractor>
+        requires { place < length (⟦<OpSet as Tells>⟧.tells self.now).extractors }
+        ensures { slice_get (⟦<OpSet as Tells>⟧.tells self.now).extractors place ≡ Some (told_extractor result.now) }
+    {
+        &self.extractors[place].op
+    }
+
+    /// Adds a processor at the end of its kind. A refusal hands the box back and changes nothing: `Duplicate` exactly where the
+    /// set has a processor of that name, and else want of memory.
+    pub fn add_processor(
+        &mut self,
+        name: Cell,
+        op: Box<dyn Processor>,
+    ) -> Result<(), (Box<dyn Processor>, AddFault)>
+        ensures ok { let old = ⟦<OpSet as Tells>⟧.tells self.old in
+            OnOk result (⟦<OpSet as Tells>⟧.tells self.new ≡ record old {
+              processor_names = old.processor_names ++ name ∷ [];
+              processors = old.processors ++ told_processor op ∷ [];
+            }) }
+        ensures handed_back { IfErr result (λ e. e.0 ≡ op) }
+        ensures unchanged { OnErr result (⟦<OpSet as Tells>⟧.tells self.new ≡ ⟦<OpSet as Tells>⟧.tells self.old) }
+        ensures duplicate { IsErrAnd result (λ e. e.1 ≡ AddFault.Duplicate)
+            ↔ Contains (⟦<OpSet as Tells>⟧.tells self.old).processor_names name }
+    {
+        if self.find_processor(name.as_slice()).is_some() {
+            return Err((op, AddFault::Duplicate));
+        }
+        match self.processors.push(Named { name, op }) {
+            Ok(()) => Ok(()),
+            Err(e) => {
+                let Named { name: _, op } = e.value;
+                Err((op, AddFault::NoMemory))
+            }
+        }
+    }
+
+    /// The place of the processor of that name, or None exactly where the set has none.
+    pub fn find_processor(&self, name: &[u8]) -> Option<usize>
+        ensures is { result ≡ position (λ n. bytes_eq n name.now) (⟦<OpSet as Tells>⟧.tells self.now).processor_names }
+        ensures within { IfSome result (λ place. place < length (⟦<OpSet as Tells>⟧.tells self.now).processors) }
+    {
+        place_of(self.processors.as_slice(), name)
+    }
+
+    /// The processor at a place, where one stands.
+    pub fn processor_at(&self, place: usize) -> &Box<dyn Processor>
+        requires { place < length (⟦<OpSet as Tells>⟧.tells self.now).processors }
+        ensures { slice_get (⟦<OpSet as Tells>⟧.tells self.now).processors place ≡ Some (told_processor result.now) }
+    {
+        &self.processors[place].op
+    }
+
+    /// Adds a reducer at the end of its kind. A refusal hands the box back and changes nothing: `Duplicate` exactly where the
+    /// set has a reducer of that name, and else want of memory.
+    pub fn add_reducer(
+        &mut self,
+        name: Cell,
+        op: Box<dyn Reducer>,
+    ) -> Result<(), (Box<dyn Reducer>, AddFault)>
+        ensures ok { let old = ⟦<OpSet as Tells>⟧.tells self.old in
+            OnOk result (⟦<OpSet as Tells>⟧.tells self.new ≡ record old {
+              reducer_names = old.reducer_names ++ name ∷ [];
+              reducers = old.reducers ++ told_reducer op ∷ [];
+            }) }
+        ensures handed_back { IfErr result (λ e. e.0 ≡ op) }
+        ensures unchanged { OnErr result (⟦<OpSet as Tells>⟧.tells self.new ≡ ⟦<OpSet as Tells>⟧.tells self.old) }
+        ensures duplicate { IsErrAnd result (λ e. e.1 ≡ AddFault.Duplicate)
+            ↔ Contains (⟦<OpSet as Tells>⟧.tells self.old).reducer_names name }
+    {
+        if self.find_reducer(name.as_slice()).is_some() {
+            return Err((op, AddFault::Duplicate));
+        }
+        match self.reducers.push(Named { name, op }) {
+            Ok(()) => Ok(()),
+            Err(e) => {
+                let Named { name: _, op } = e.value;
+                Err((op, AddFault::NoMemory))
+            }
+        }
+    }
+
+    /// The place of the reducer of that name, or None exactly where the set has none.
+    pub fn find_reducer(&self, name: &[u8]) -> Option<usize>
+        ensures is { result ≡ position (λ n. bytes_eq n name.now) (⟦<OpSet as Tells>⟧.tells self.now).reducer_names }
+        ensures within { IfSome result (λ place. place < length (⟦<OpSet as Tells>⟧.tells self.now).reducers) }
+    {
+        place_of(self.reducers.as_slice(), name)
+    }
+
+    /// The reducer at a place, where one stands.
+    pub fn reducer_at(&self, place: usize) -> &Box<dyn Reducer>
+        requires { place < length (⟦<OpSet as Tells>⟧.tells self.now).reducers }
+        ensures { slice_get (⟦<OpSet as Tells>⟧.tells self.now).reducers place ≡ Some (told_reducer result.now) }
+    {
+        &self.reducers[place].op
+    }
+
+    /// Adds a combiner at the end of its kind. A refusal hands the box back and changes nothing: `Duplicate` exactly where the
+    /// set has a combiner of that name, and else want of memory.
+    pub fn add_combiner(
+        &mut self,
+        name: Cell,
+        op: Box<dyn Combiner>,
+    ) -> Result<(), (Box<dyn Combiner>, AddFault)>
+        ensures ok { let old = ⟦<OpSet as Tells>⟧.tells self.old in
+            OnOk result (⟦<OpSet as Tells>⟧.tells self.new ≡ record old {
+              combiner_names = old.combiner_names ++ name ∷ [];
+              combiners = old.combiners ++ told_combiner op ∷ [];
+            }) }
+        ensures handed_back { IfErr result (λ e. e.0 ≡ op) }
+        ensures unchanged { OnErr result (⟦<OpSet as Tells>⟧.tells self.new ≡ ⟦<OpSet as Tells>⟧.tells self.old) }
+        ensures duplicate { IsErrAnd result (λ e. e.1 ≡ AddFault.Duplicate)
+            ↔ Contains (⟦<OpSet as Tells>⟧.tells self.old).combiner_names name }
+    {
+        if self.find_combiner(name.as_slice()).is_some() {
+            return Err((op, AddFault::Duplicate));
+        }
+        match self.combiners.push(Named { name, op }) {
+            Ok(()) => Ok(()),
+            Err(e) => {
+                let Named { name: _, op } = e.value;
+                Err((op, AddFault::NoMemory))
+            }
+        }
+    }
+
+    /// The place of the combiner of that name, or None exactly where the set has none.
+    pub fn find_combiner(&self, name: &[u8]) -> Option<usize>
+        ensures is { result ≡ position (λ n. bytes_eq n name.now) (⟦<OpSet as Tells>⟧.tells self.now).combiner_names }
+        ensures within { IfSome result (λ place. place < length (⟦<OpSet as Tells>⟧.tells self.now).combiners) }
+    {
+        place_of(self.combiners.as_slice(), name)
+    }
+
+    /// The combiner at a place, where one stands.
+    pub fn combiner_at(&self, place: usize) -> &Box<dyn Combiner>
+        requires { place < length (⟦<OpSet as Tells>⟧.tells self.now).combiners }
+        ensures { slice_get (⟦<OpSet as Tells>⟧.tells self.now).combiners place ≡ Some (told_combiner result.now) }
+    {
+        &self.combiners[place].op
+    }
+}
