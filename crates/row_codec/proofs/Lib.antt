@@ -1,0 +1,5 @@
+pub mod Digits
+pub mod Fronts
+pub mod KnownTexts
+pub mod OneFieldFits
+pub mod Reading
