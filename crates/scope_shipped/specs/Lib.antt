@@ -1,0 +1,11 @@
+pub mod Arguments
+pub mod FirstIsNull
+pub mod InnerPairs
+pub mod LogExtractor
+pub mod MultiSetDifference
+pub mod RowCounts
+pub mod SameTypes
+pub mod SplitWords
+pub mod TextExtractor
+pub mod TopQueries
+pub mod Words
