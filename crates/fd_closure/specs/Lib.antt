@@ -1,0 +1,5 @@
+pub mod Known
+pub mod Closure
+pub mod Least
+pub mod Hold
+pub mod Laws
