@@ -1,0 +1,28 @@
+//! How rows are dealt out to parts, and what is asked of it.
+use col_sets::{ColSet, KeyCols, KeyOrders};
+
+/// How the rows of a list of parts were dealt out.
+#[derive(Clone, Copy, Debug, PartialEq, Eq)]
+pub enum Scheme {
+    /// That many parts, and nothing is known of which row lies where.
+    Any(u32),
+    /// One part.
+    Serial,
+    /// As many parts as the partition count, each row in the part of its key's bucket.
+    Hash(KeyCols),
+    /// As many parts as the partition count, each row of an earlier part strictly before each row of a later one.
+    Range(KeyOrders),
+}
+
+/// What is asked of how rows were dealt out.
+#[derive(Clone, Copy, Debug, PartialEq, Eq)]
+pub enum NeedScheme {
+    /// Nothing.
+    None,
+    /// One part.
+    OnePartition,
+    /// Rows that agree on the columns lie in one part.
+    Together(ColSet),
+    /// Each row lies in the part of the bucket of just this key.
+    HashExact(KeyCols),
+}
