@@ -1,0 +1,5 @@
+pub mod CopyReading
+pub mod CopyScript
+pub mod Ends
+pub mod Report
+pub mod Run

@@ -1,0 +1,24 @@
+-- The number and the line of each status.
+use Rattle.std.specs.Prelude.{ℕ, List, [], ◌++◌, codes}
+use Rattle.std.specs.Fmt.{decimal}
+use Rattle.scope_app.specs.declared.status.Status.{Status}
+use Rattle.scope_app.specs.declared.status.Status.TheVariants as status
+
+abbrev pub number_of : Status → ℕ
+number_of status.Done = 0
+number_of status.NoMemory = 1
+number_of (status.ReadFault name) = 3
+number_of (status.NoStream name) = 4
+number_of (status.RowFault name part at) = 9
+number_of (status.WriteFault name) = 12
+number_of status.NotBuilt = 20
+
+-- the line on standard error, without its end
+abbrev pub line_of : Status → List ℕ
+line_of status.Done = []
+line_of status.NoMemory = codes "scope: out of memory"
+line_of (status.ReadFault name) = codes "scope: cannot read " ++ name
+line_of (status.NoStream name) = codes "scope: no stream " ++ name
+line_of (status.RowFault name part at) = (codes "scope: " ++ name) ++ ((codes ": part " ++ decimal part) ++ (codes ": record " ++ decimal at))
+line_of (status.WriteFault name) = codes "scope: cannot write " ++ name
+line_of status.NotBuilt = codes "scope: not built"
