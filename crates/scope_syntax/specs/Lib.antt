@@ -1,0 +1,12 @@
+pub mod Lexemes
+pub mod Expressions
+pub mod Statements
+pub mod Reading
+pub mod ReadExpressions
+pub mod ReadParts
+pub mod ReadSelect
+pub mod Terminals
+pub mod Tables
+pub mod ReadCommands
+pub mod ReadStatements
+pub mod ReadScripts

@@ -1,0 +1,149 @@
+-- Reading of SELECT, behind its word.
+use Rattle.std.specs.Prelude.{◌==◌, ℕ, ℤ, zero, suc, pos, negsuc, Bool, true, false, List, [], ◌∷◌, ◌++◌, length, Option, Some, None, if◌then◌else◌}
+use Rattle.scope_expr.specs.declared.raw.RawExpr.{RawExpr}
+use Rattle.scope_expr.specs.declared.raw.RawExpr.TheVariants.{Ref}
+use Rattle.scope_expr.specs.declared.raw.RawRef.{RawRef}
+use Rattle.scope_syntax.specs.declared.item.Item.{Item}
+use Rattle.scope_syntax.specs.declared.item.Items.{Items}
+use Rattle.scope_syntax.specs.declared.item.Items.TheVariants.{All, Listed}
+use Rattle.scope_syntax.specs.declared.key.RawKey.{RawKey}
+use Rattle.scope_syntax.specs.declared.keyword.Keyword.{Keyword}
+use Rattle.scope_syntax.specs.declared.keyword.Keyword.TheVariants as word
+use Rattle.scope_syntax.specs.declared.level.Place.TheVariants as place
+use Rattle.scope_syntax.specs.declared.raw_agg.RawAgg.{RawAgg}
+use Rattle.scope_syntax.specs.declared.select.Joined.{Joined}
+use Rattle.scope_syntax.specs.declared.select.Select as selects
+use Rattle.scope_syntax.specs.declared.source.Source.{Source}
+use Rattle.scope_syntax.specs.declared.symbol.Symbol.TheVariants as mark
+use Rattle.scope_syntax.specs.Lexemes.{Lexeme, number, is_symbol}
+use Rattle.scope_syntax.specs.Statements.{is_and, is_comma}
+use Rattle.scope_syntax.specs.Reading.{Parser, ◌>>=◌, ◌>>◌, and_then, eat, pure, refuse, take_name, take_one}
+use Rattle.scope_syntax.specs.ReadExpressions.{whole}
+use Rattle.scope_syntax.specs.ReadParts.{eat_word, equality, expect_word, key, list, optional, reference, source}
+
+-- ---- the number of TOP
+
+abbrev pub not_negative : ℤ → Parser ℕ
+not_negative (pos n) = pure n
+not_negative (negsuc n) = refuse
+
+abbrev pub count_from : Lexeme → Parser ℕ
+count_from (number digits n) = not_negative n
+count_from _ = refuse
+
+unfoldable pub count : Parser ℕ
+count = take_one >>= count_from
+
+abbrev pub top : Parser (Option ℕ)
+top = optional word.Top count
+
+-- ---- items
+
+-- an item that is named by its column
+abbrev pub as_item : RawRef → Item
+as_item r = record { expr = Ref r; name = r.name }
+
+abbrev pub column_item : Parser Item
+column_item = reference >>= (λ r. pure (as_item r))
+
+-- An item without AS has to be a column: what was read as an expression, from these lexemes on and behind so many
+-- aggregates, is read anew.
+unfoldable pub bare : List Lexeme → ℕ → Parser Item
+bare before n c = if length c.aggs == n then column_item (record c { rest = before }) else None
+
+-- the name behind AS
+unfoldable pub named : RawExpr → Parser Item
+named e = do
+  n ← take_name
+  pure (record { expr = e; name = n })
+
+-- an item, behind its expression
+unfoldable pub item_behind : List Lexeme → ℕ → RawExpr → Parser Item
+item_behind before n e = do
+  is_named ← eat_word word.As
+  if is_named then named e else bare before n
+
+unfoldable pub item : Parser Item
+item c = and_then (whole place.Item c) (item_behind c.rest (length c.aggs))
+
+unfoldable pub items : Parser Items
+items = do
+  are_all ← eat (is_symbol mark.Star)
+  if are_all then pure All else (do xs ← list is_comma item; pure (Listed xs))
+
+-- the aggregates so far, of which none are left
+unfoldable pub take_aggs : Parser (List RawAgg)
+take_aggs c = Some (c.aggs, record c { aggs = [] })
+
+-- ---- sources
+
+-- [INNER] JOIN, and whether it was there
+unfoldable pub join_word : Parser Bool
+join_word = do
+  is_inner ← eat_word word.Inner
+  if is_inner then (do expect_word word.Join; pure true) else eat_word word.Join
+
+-- a joined source, behind JOIN
+unfoldable pub joined : Parser Joined
+joined = do
+  s ← source
+  expect_word word.On
+  es ← list is_and equality
+  pure (record { source = s; on = es })
+
+-- further joined sources, up to a number of turns
+abbrev pub next_join : List Joined → (List Joined → Parser (List Joined)) → Bool → Parser (List Joined)
+next_join js next false = pure js
+next_join js next true = joined >>= (λ j. next (js ++ j ∷ []))
+
+unfoldable pub joins : ℕ → List Joined → Parser (List Joined)
+joins zero js = pure js
+joins (suc k) js = join_word >>= next_join js (joins k)
+
+-- the first source has no equalities
+abbrev pub first_source : Source → List Joined
+first_source s = (record { source = s; on = [] }) ∷ []
+
+unfoldable pub sources : Source → Parser (List Joined)
+sources s c = joins (length c.rest) (first_source s) c
+
+unfoldable pub from : Parser (List Joined)
+from = do
+  is_there ← eat_word word.From
+  if is_there then source >>= sources else pure []
+
+-- ---- the other clauses
+
+-- a word, and then something
+unfoldable pub behind : {A : Type 0} → Keyword → Parser A → Parser A
+behind w p = expect_word w >> p
+
+abbrev pub filter : Parser (Option RawExpr)
+filter = optional word.Where (whole place.Plain)
+
+abbrev pub group : Parser (Option (List RawRef))
+group = optional word.Group (behind word.By (list is_comma reference))
+
+abbrev pub having : Parser (Option RawExpr)
+having = optional word.Having (whole place.Plain)
+
+abbrev pub order : Parser (Option (List RawKey))
+order = optional word.Order (behind word.By (list is_comma key))
+
+-- what stands behind the items
+unfoldable pub clauses : Bool → Option ℕ → Items → List RawAgg → Parser selects.Select
+clauses d t xs gs = do
+  js ← from
+  f ← filter
+  g ← group
+  h ← having
+  o ← order
+  pure (record { distinct = d; top = t; items = xs; aggs = gs; sources = js; filter = f; group = g; having = h; order = o })
+
+unfoldable pub select : Parser selects.Select
+select = do
+  d ← eat_word word.Distinct
+  t ← top
+  xs ← items
+  gs ← take_aggs
+  clauses d t xs gs
