@@ -158,6 +158,30 @@ fn values_of_comparisons(rt: HostRuntime) -> Result<(), Fail> {
 }
 
 #[test]
+fn values_with_null(rt: HostRuntime) -> Result<(), Fail> {
+    let cases = [
+        Case(PairOp::Add, Worth::Null, Worth::Number(1), Worth::Null),
+        Case(PairOp::Mul, Worth::Number(2), Worth::Null, Worth::Null),
+        Case(PairOp::Div, Worth::Null, Worth::Number(2), Worth::Null),
+        Case(PairOp::Rem, Worth::Number(7), Worth::Null, Worth::Null),
+        Case(
+            PairOp::Gt,
+            Worth::Number(-1),
+            Worth::Null,
+            Worth::Truth(true),
+        ),
+        Case(
+            PairOp::Ge,
+            Worth::Null,
+            Worth::Number(0),
+            Worth::Truth(false),
+        ),
+    ];
+    check_pairs(&rt, rt.alloc(), &cases)?;
+    Ok(())
+}
+
+#[test]
 fn values_of_links(rt: HostRuntime) -> Result<(), Fail> {
     let cases = [
         Case(
