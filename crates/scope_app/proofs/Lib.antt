@@ -1,3 +1,4 @@
-pub mod CopyLemmas
-pub mod CopyScriptLemmas
+mod MarkingFits
+pub mod PipelineLemmas
+pub mod PlanLemmas
 pub mod RunLemmas

@@ -1,5 +1,8 @@
-pub mod CopyReading
-pub mod CopyScript
 pub mod Ends
+pub mod Marking
+pub mod Pipeline
+pub mod Plans
 pub mod Report
+pub mod Results
 pub mod Run
+pub mod ScriptText

@@ -1,6 +1,8 @@
 -- The number and the line of each status.
 use Rattle.std.specs.Prelude.{ℕ, List, [], ◌++◌, codes}
 use Rattle.std.specs.Fmt.{decimal}
+use Rattle.scope_app.specs.declared.status.ScriptPlace.{ScriptPlace}
+use Rattle.scope_app.specs.declared.status.ScriptPlace.TheVariants.{Lex, Syntax}
 use Rattle.scope_app.specs.declared.status.Status.{Status}
 use Rattle.scope_app.specs.declared.status.Status.TheVariants as status
 
@@ -11,7 +13,14 @@ number_of (status.ReadFault name) = 3
 number_of (status.NoStream name) = 4
 number_of (status.RowFault name part at) = 9
 number_of (status.WriteFault name) = 12
+number_of status.NotText = 5
+number_of (status.ScriptFault place) = 6
 number_of status.NotBuilt = 20
+
+-- the line of a script outside the language
+abbrev pub place_line : ScriptPlace → List ℕ
+place_line (Lex f) = codes "scope: no token at byte " ++ decimal f.at
+place_line (Syntax f) = codes "scope: statement " ++ (decimal f.statement ++ codes " is outside the grammar")
 
 -- the line on standard error, without its end
 abbrev pub line_of : Status → List ℕ
@@ -21,4 +30,6 @@ line_of (status.ReadFault name) = codes "scope: cannot read " ++ name
 line_of (status.NoStream name) = codes "scope: no stream " ++ name
 line_of (status.RowFault name part at) = (codes "scope: " ++ name) ++ ((codes ": part " ++ decimal part) ++ (codes ": record " ++ decimal at))
 line_of (status.WriteFault name) = codes "scope: cannot write " ++ name
+line_of status.NotText = codes "scope: script is not UTF-8"
+line_of (status.ScriptFault place) = place_line place
 line_of status.NotBuilt = codes "scope: not built"

@@ -1,16 +1,15 @@
--- What a run of words over a store means.
-use Rattle.std.specs.Prelude.{◌≡◌, ℕ, ◌⊎◌, ◌==◌, Bool, false, List, [], ◌∷◌, Option, Some, None, Result, Ok, Err, codes}
+-- What the words ask for over the files, with these operators.
+use Rattle.std.specs.Prelude.{◌≡◌, ℕ, ◌⊎◌, ◌==◌, Bool, false, List, [], ◌∷◌, Option, Some, None, Ok, Err, codes, IsUtf8}
 use Rattle.std.specs.FinMap as map
-use Rattle.scope_value.specs.declared.value.Value.{Value}
-use Rattle.scope_outside.specs.State.{StoreState, Files, OnFiles}
-use Rattle.scope_outside.specs.Answers.{IsFault, IsMiss, IsOpenAt, with_file}
-use Rattle.row_codec.specs.Records.{records_of}
-use Rattle.row_codec.specs.Rows.{rows_from, text_extracts}
-use Rattle.row_codec.specs.Texts.{rows_text}
-use Rattle.scope_app.specs.declared.copy_script.CopyScript.{CopyScript}
+use Rattle.scope_outside.specs.State.{Files}
+use Rattle.user_ops.specs.Told.{Operators, ToldExtractor}
+use Rattle.scope_syntax.specs.declared.script.Script.{Script}
+use Rattle.scope_app.specs.declared.pipeline.Pipeline.{Pipeline}
+use Rattle.scope_app.specs.declared.status.ScriptPlace.{ScriptPlace}
 use Rattle.scope_app.specs.declared.status.Status.{Status}
 use Rattle.scope_app.specs.declared.status.Status.TheVariants as status
-use Rattle.scope_app.specs.CopyScript.{IsScriptText}
+use Rattle.scope_app.specs.ScriptText.{IsScriptText, IsFaultAt}
+use Rattle.scope_app.specs.Plans.{RunsAs, output_text}
 
 abbrev pub begins_with_dash : List ℕ → Bool
 begins_with_dash [] = false
@@ -21,58 +20,79 @@ pub record Asks (words : List (List ℕ)) (name : List ℕ) : Type 0 where
   pub words_are : words ≡ codes "scope" ∷ codes "run" ∷ name ∷ []
   pub no_option : begins_with_dash name ≡ false
 
--- the words ask to run this script, which stands in the files
-pub record Runs (words : List (List ℕ)) (files : Files) (script : CopyScript) : Type 0 where
+-- what a call is given: its words, its operators and the files
+pub record Given : Type 0 where
+  pub words : List (List ℕ)
+  pub ops : Operators
+  pub files : Files
+
+-- the words ask for the script of this name, which holds this text
+pub record AsksFor (g : Given) (text : List ℕ) : Type 0 where
   pub name : List ℕ
-  pub asks : Asks words name
+  pub asks : Asks g.words name
+  pub there : map.get g.files name ≡ Some text
+
+-- the words ask for a script that runs with these operators: what it does, and what its extractor tells
+pub record Runs (g : Given) (p : Pipeline) (told : ToldExtractor) : Type 0 where
   pub text : List ℕ
-  pub there : map.get files name ≡ Some text
-  pub is : IsScriptText script text
+  pub asked : AsksFor g text
+  pub script : Script
+  pub is : IsScriptText text script
+  pub runs : RunsAs g.ops script p told
 
--- the rows of the script's input, read from these bytes, or the number of the first refused record
-abbrev pub input_rows : CopyScript → List ℕ → Result (List (List Value)) ℕ
-input_rows script bytes = rows_from (text_extracts script.columns) 1 (records_of 44 bytes)
+-- the words have this name read: the script's, or then the input's
+abbrev pub Reads : Given → List ℕ → Type 0
+Reads g name = Asks g.words name ⊎ ((p : Pipeline) × (told : ToldExtractor) × Runs g p told × (name ≡ p.stream))
 
--- over these files the words call for this text under this name
-pub record Writes (words : List (List ℕ)) (files : Files) (name text : List ℕ) : Type 0 where
-  pub script : CopyScript
-  pub runs : Runs words files script
+-- they do, and it isn't in the files
+abbrev pub Lacks : Given → List ℕ → Type 0
+Lacks g name = (map.get g.files name ≡ None) × Reads g name
+
+-- the script's input is there, with these bytes
+pub record Inputs (g : Given) (p : Pipeline) (told : ToldExtractor) (bytes : List ℕ) : Type 0 where
+  pub runs : Runs g p told
+  pub input : map.get g.files p.stream ≡ Some bytes
+
+-- the words call for this text under this name: the text of the rows that the script outputs
+pub record Writes (g : Given) (name text : List ℕ) : Type 0 where
+  pub pipeline : Pipeline
+  pub told : ToldExtractor
   pub bytes : List ℕ
-  pub input : map.get files script.input ≡ Some bytes
-  pub rows : List (List Value)
-  pub rows_are : input_rows script bytes ≡ Ok rows
-  pub name_is : name ≡ script.output
-  pub text_is : text ≡ rows_text 44 rows
+  pub inputs : Inputs g pipeline told bytes
+  pub name_is : name ≡ pipeline.output
+  pub text_is : output_text told pipeline bytes ≡ Ok text
 
--- a name that the words have read isn't in the files: the script's, or then the input's
-abbrev pub Lacks : List (List ℕ) → Files → List ℕ → Type 0
-Lacks words files name = (map.get files name ≡ None) × (Asks words name ⊎ ((script : CopyScript) × Runs words files script × (name ≡ script.input)))
-
--- the words have this name read
-abbrev pub Reads : List (List ℕ) → Files → List ℕ → Type 0
-Reads words files name = Asks words name ⊎ ((script : CopyScript) × Runs words files script × (name ≡ script.input))
-
--- the record of this number is the first of the input that is refused
-pub record Refuses (words : List (List ℕ)) (files : Files) (name : List ℕ) (at : ℕ) : Type 0 where
-  pub script : CopyScript
-  pub runs : Runs words files script
+-- the record of this number is the first of the input of this name that the extractor refuses
+pub record Refuses (g : Given) (name : List ℕ) (at : ℕ) : Type 0 where
+  pub pipeline : Pipeline
+  pub told : ToldExtractor
   pub bytes : List ℕ
-  pub name_is : name ≡ script.input
-  pub input : map.get files script.input ≡ Some bytes
-  pub refused : input_rows script bytes ≡ Err at
+  pub inputs : Inputs g pipeline told bytes
+  pub name_is : name ≡ pipeline.stream
+  pub refused : output_text told pipeline bytes ≡ Err at
 
--- the words ask for no script, or for one that is of no form that runs
-abbrev pub IsOfNoForm : List (List ℕ) → Files → Type 0
-IsOfNoForm words files =
-    ((name : List ℕ) → ¬ Asks words name)
-    ⊎ ((name text : List ℕ) × Asks words name × (map.get files name ≡ Some text) × ((script : CopyScript) → ¬ IsScriptText script text))
+-- the words ask for a script that is no text
+abbrev pub IsNoText : Given → Type 0
+IsNoText g = (text : List ℕ) × AsksFor g text × ¬ IsUtf8 text
 
--- the status that these words call for over these files, where memory lasts and no read or write fails
-abbrev pub CalledFor : List (List ℕ) → Files → Status → Type 0
-CalledFor words files status.Done = (name text : List ℕ) × Writes words files name text
-CalledFor words files (status.NoStream name) = Lacks words files name
-CalledFor words files (status.RowFault name part at) = (part ≡ 0) × Refuses words files name at
-CalledFor words files status.NotBuilt = IsOfNoForm words files
-CalledFor words files status.NoMemory = ⊥
-CalledFor words files (status.ReadFault name) = ⊥
-CalledFor words files (status.WriteFault name) = ⊥
+-- the words ask for a script that leaves the language at this place
+abbrev pub LeavesAt : Given → ScriptPlace → Type 0
+LeavesAt g place = (text : List ℕ) × AsksFor g text × IsFaultAt text place
+
+-- the words ask for no script, or for one of no form that runs
+abbrev pub IsOfNoForm : Given → Type 0
+IsOfNoForm g =
+    ((name : List ℕ) → ¬ Asks g.words name)
+    ⊎ ((text : List ℕ) × (script : Script) × AsksFor g text × IsScriptText text script × ((p : Pipeline) (told : ToldExtractor) → ¬ RunsAs g.ops script p told))
+
+-- the status that these words call for, where memory lasts and no read or write fails
+abbrev pub CalledFor : Given → Status → Type 0
+CalledFor g status.Done = (name text : List ℕ) × Writes g name text
+CalledFor g (status.NoStream name) = Lacks g name
+CalledFor g status.NotText = IsNoText g
+CalledFor g (status.ScriptFault place) = LeavesAt g place
+CalledFor g (status.RowFault name part at) = (part ≡ 0) × Refuses g name at
+CalledFor g status.NotBuilt = IsOfNoForm g
+CalledFor g status.NoMemory = ⊥
+CalledFor g (status.ReadFault name) = ⊥
+CalledFor g (status.WriteFault name) = ⊥

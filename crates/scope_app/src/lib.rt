@@ -1,14 +1,19 @@
 //! The top call: reads a script, runs it over a store, and says how that ended.
 #![tactic(auto)]
 
-mod copy_script;
+mod distinct;
+#[cfg(test)]
+mod marking;
+mod output;
+mod pipeline;
+mod plan;
 mod report;
+mod select;
 mod status;
 #[cfg(test)]
 mod tests;
 mod top;
 
-pub use copy_script::{CopyScript, read_script};
 pub use report::{status_line, status_number};
-pub use status::Status;
+pub use status::{ScriptPlace, Status};
 pub use top::scope_main;

@@ -1,5 +1,16 @@
 // How a call of the program ended.
+use scope_lexer::LexFault;
+use scope_syntax::SyntaxFault;
 use scope_value::Cell;
+
+/// Where a script leaves the language.
+#[derive(Clone, Copy, Debug)]
+pub enum ScriptPlace {
+    /// The first byte at which nothing begins.
+    Lex(LexFault),
+    /// The first statement outside the grammar.
+    Syntax(SyntaxFault),
+}
 
 /// How a call ended, with the name of the stream that it ended at.
 #[derive(Debug, Drop)]
@@ -12,7 +23,11 @@ pub enum Status {
     ReadFault(Cell),
     /// The store has no such stream.
     NoStream(Cell),
-    /// The record of that part, both counted from 0 and from 1, is the first that isn't a row of the stream's columns.
+    /// The script is not UTF-8.
+    NotText,
+    /// The script is outside the language.
+    ScriptFault(ScriptPlace),
+    /// The extractor refused a record: the first it refuses, counted from 1, in that part, counted from 0.
     RowFault { name: Cell, part: u32, at: u64 },
     /// The store failed to write the stream.
     WriteFault(Cell),

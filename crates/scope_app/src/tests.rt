@@ -1,15 +1,29 @@
-// The worked rows of the first form of script, over a store in memory.
+// The worked rows of scripts that run, over a store in memory.
 use super::*;
+use crate::marking::{Marking, Refusing};
 use scope_outside::MemStore;
+use scope_shipped::TextExtractor;
+use scope_value::Cell;
 use std::alloc::{AllocError, Global};
 use std::test::Fail;
+use user_ops::OpSet;
 
-const SCRIPT: &str = "e = EXTRACT a:int, b FROM \"in\" USING TextExtractor; OUTPUT e TO \"out\";";
+const COPY: &[u8] = b"e = EXTRACT a:int, b FROM \"in\" USING TextExtractor; OUTPUT e TO \"out\";";
+
+const SELECT: &[u8] =
+    b"e = EXTRACT k, v:int FROM \"in\" USING TextExtractor; f = SELECT k, v * 2 AS w FROM e WHERE v >= 2; OUTPUT f TO \"out\";";
+
+const BELOW: &[u8] =
+    b"e = EXTRACT k, v:int FROM \"in\" USING TextExtractor; f = SELECT k, v * 2 AS w FROM e WHERE v < 2; OUTPUT f TO \"out\";";
+
+const MARKED: &[u8] = b"e = EXTRACT m FROM \"in\" USING Marking; OUTPUT e TO \"out\";";
+
+const REFUSED: &[u8] = b"e = EXTRACT m FROM \"in\" USING Refusing; OUTPUT e TO \"out\";";
 
 // What a run is given, and what comes of it. A call that fails is counted from 1, and 0 is none.
 #[derive(Clone, Copy)]
 struct Case<'a> {
-    script: &'a str,
+    script: &'a [u8],
     input: Option<&'a [u8]>,
     failing_read: u64,
     failing_write: u64,
@@ -28,7 +42,7 @@ fn words_of(alloc: Global, texts: &[&str]) -> Result<Vec<String>, AllocError> {
 
 fn store_of(alloc: Global, case: &Case<'_>) -> Result<MemStore, AllocError> {
     let mut store = MemStore::new(alloc);
-    store.put(b"s", case.script.as_bytes())?;
+    store.put(b"s", case.script)?;
     if let Some(input) = case.input {
         store.put(b"in", input)?;
     }
@@ -37,68 +51,116 @@ fn store_of(alloc: Global, case: &Case<'_>) -> Result<MemStore, AllocError> {
     Ok(store)
 }
 
-fn one_case<'a>(
-    input: &'a [u8],
-    number: u32,
-    line: &'a [u8],
-    output: Option<&'a [u8]>,
-) -> Case<'a> {
+fn done<'a>(script: &'a [u8], input: &'a [u8], output: &'a [u8]) -> Case<'a> {
     Case {
-        script: SCRIPT,
+        script,
+        input: Some(input),
+        failing_read: 0,
+        failing_write: 0,
+        number: 0,
+        line: b"",
+        output: Some(output),
+    }
+}
+
+fn stops<'a>(script: &'a [u8], input: &'a [u8], number: u32, line: &'a [u8]) -> Case<'a> {
+    Case {
+        script,
         input: Some(input),
         failing_read: 0,
         failing_write: 0,
         number,
         line,
-        output,
+        output: None,
     }
 }
 
+fn ends_as(
+    rt: &impl std::process::Abort,
+    alloc: Global,
+    ops: &OpSet,
+    case: &Case<'_>,
+) -> Result<(), AllocError> {
+    let words = words_of(alloc, &["scope", "run", "s"])?;
+    let mut store = store_of(alloc, case)?;
+    let status = scope_main(alloc, words.as_slice(), &mut store, ops);
+    let mut line = Vec::new(alloc);
+    status_line(&status, &mut line)?;
+    assert!(rt; status_number(&status) == case.number);
+    assert!(rt; line.as_slice() == case.line);
+    assert!(rt; store.get(b"out")? == case.output);
+    Ok(())
+}
+
 #[test]
-fn scripts_run(rt: HostRuntime) -> Result<(), Fail> {
+fn scripts_end_as_they_should(rt: HostRuntime) -> Result<(), Fail> {
     let alloc = rt.alloc();
+    let mut ops = OpSet::new(alloc);
+    let text = Cell::from_slice(alloc, b"TextExtractor")?;
+    let marking = Cell::from_slice(alloc, b"Marking")?;
+    let refusing = Cell::from_slice(alloc, b"Refusing")?;
+    assert!(rt;
+        ops.add_extractor(text, Box::new(alloc, TextExtractor)?)
+            .is_ok()
+    );
+    assert!(rt;
+        ops.add_extractor(marking, Box::new(alloc, Marking)?)
+            .is_ok()
+    );
+    assert!(rt;
+        ops.add_extractor(refusing, Box::new(alloc, Refusing)?)
+            .is_ok()
+    );
     let missing = Case {
         input: None,
-        ..one_case(b"", 4, b"scope: no stream in", None)
+        ..stops(COPY, b"", 4, b"scope: no stream in")
     };
     let unread = Case {
         failing_read: 2,
-        ..one_case(b"1,x\n", 3, b"scope: cannot read in", None)
+        ..stops(COPY, b"1,x\n", 3, b"scope: cannot read in")
     };
     let unwritten = Case {
         failing_write: 1,
-        ..one_case(b"1,x\n", 12, b"scope: cannot write out", None)
-    };
-    let no_form = Case {
-        script: "OUTPUT;",
-        ..one_case(b"1,x\n", 20, b"scope: not built", None)
+        ..stops(COPY, b"1,x\n", 12, b"scope: cannot write out")
     };
     let cases = [
-        one_case(b"1,x\n2,y\n", 0, b"", Some(b"1,x\n2,y\n")),
-        one_case(b",x\n", 0, b"", Some(b"\\N,x\n")),
-        one_case(b"", 0, b"", Some(b"")),
-        one_case(
-            b"1,x\r\n\r\n2,\"a,\"\"b\"",
-            0,
-            b"",
-            Some(b"1,x\n2,\"a,\"\"b\"\n"),
-        ),
-        one_case(b"7,\xff\n", 0, b"", Some(b"7,\xff\n")),
-        one_case(b"1,x\nq,y\n", 9, b"scope: in: part 0: record 2", None),
+        done(COPY, b"1,x\n2,y\n", b"1,x\n2,y\n"),
+        done(COPY, b",x\n", b"\\N,x\n"),
+        done(COPY, b"", b""),
+        done(COPY, b"1,x\r\n\r\n2,\"a,\"\"b\"", b"1,x\n2,\"a,\"\"b\"\n"),
+        done(COPY, b"7,\xff\n", b"7,\xff\n"),
+        done(SELECT, b"a,1\nb,2\nc,\nd,7\n", b"b,4\nd,14\n"),
+        done(BELOW, b"a,1\nb,2\nc,\nd,7\n", b"a,2\nc,\\N\n"),
+        done(MARKED, b"1\n2,3\n", b"seen\nseen\n"),
+        stops(REFUSED, b"1\n2\n", 9, b"scope: in: part 0: record 1"),
+        stops(COPY, b"1,x\nq,y\n", 9, b"scope: in: part 0: record 2"),
         missing,
         unread,
         unwritten,
-        no_form,
+        stops(b"\xff", b"", 5, b"scope: script is not UTF-8"),
+        stops(b"a = #", b"", 6, b"scope: no token at byte 4"),
+        stops(
+            b"OUTPUT;",
+            b"",
+            6,
+            b"scope: statement 1 is outside the grammar",
+        ),
+        stops(b"", b"", 20, b"scope: not built"),
+        stops(
+            b"e = EXTRACT a FROM \"in\" USING Nobody; OUTPUT e TO \"out\";",
+            b"",
+            20,
+            b"scope: not built",
+        ),
+        stops(
+            b"e = EXTRACT a, b FROM \"in\" USING Marking; OUTPUT e TO \"out\";",
+            b"",
+            20,
+            b"scope: not built",
+        ),
     ];
-    let words = words_of(alloc, &["scope", "run", "s"])?;
     for case in &cases {
-        let mut store = store_of(alloc, case)?;
-        let status = scope_main(alloc, words.as_slice(), &mut store);
-        let mut line = Vec::new(alloc);
-        status_line(&status, &mut line)?;
-        assert_eq!(rt; status_number(&status), case.number);
-        assert_eq!(rt; line.as_slice(), case.line);
-        assert!(rt; store.get(b"out")? == case.output);
+        ends_as(&rt, alloc, &ops, case)?;
     }
     Ok(())
 }
@@ -106,7 +168,8 @@ fn scripts_run(rt: HostRuntime) -> Result<(), Fail> {
 #[test]
 fn other_words_are_not_built(rt: HostRuntime) -> Result<(), Fail> {
     let alloc = rt.alloc();
-    let mut store = store_of(alloc, &one_case(b"1,x\n", 0, b"", None))?;
+    let ops = OpSet::new(alloc);
+    let mut store = store_of(alloc, &done(COPY, b"1,x\n", b""))?;
     for texts in [
         &[] as &[&str],
         &["scope", "run"],
@@ -115,7 +178,7 @@ fn other_words_are_not_built(rt: HostRuntime) -> Result<(), Fail> {
         &["scope", "run", "s", "t"],
     ] {
         let words = words_of(alloc, texts)?;
-        let status = scope_main(alloc, words.as_slice(), &mut store);
+        let status = scope_main(alloc, words.as_slice(), &mut store, &ops);
         assert_eq!(rt; status_number(&status), 20);
     }
     Ok(())

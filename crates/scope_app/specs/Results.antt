@@ -1,0 +1,33 @@
+-- What a selection gives of rows.
+use Rattle.std.specs.Prelude.{ℕ, Bool, true, List, length, map, filter, nat_lt, Option, Some, None}
+use Rattle.scope_value.specs.declared.value.Value.{Value}
+use Rattle.col_sets.specs.Sets.{columns_where}
+use Rattle.scope_expr.specs.declared.expr.Expr.{Expr}
+use Rattle.scope_expr.specs.Value.{value, holds}
+use Rattle.scope_app.specs.declared.pipeline.Pipeline.{Pipeline}
+use Rattle.scope_app.specs.declared.pipeline.Selection.{Selection}
+
+-- the columns that have a number below the count
+abbrev pub first_columns : ℕ → List ℕ
+first_columns count = columns_where (λ c. nat_lt c count)
+
+-- WHERE holds of the row: its value is true, and without WHERE each row is kept
+abbrev pub keeps : Option Expr → List ℕ → List Value → Bool
+keeps None columns row = true
+keeps (Some p) columns row = holds p columns row
+
+-- the values of the items on a row
+abbrev pub values_of : List Expr → List ℕ → List Value → List Value
+values_of items columns row = map (λ e. value e columns row) items
+
+-- the rows where WHERE holds, in order, and of each the values of the items
+abbrev pub select_rows : Selection → List ℕ → List (List Value) → List (List Value)
+select_rows s columns rows = map (values_of s.items columns) (filter (keeps s.filter columns) rows)
+
+-- the rows that a script outputs of those that it extracts
+abbrev pub output_rows : Pipeline → List (List Value) → List (List Value)
+output_rows p rows = given p.selection
+  where
+    given : Option Selection → List (List Value)
+    given None = rows
+    given (Some s) = select_rows s (first_columns (length p.columns)) rows

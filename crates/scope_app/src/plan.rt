@@ -1,0 +1,90 @@
+// What is to be done for a script's text.
+ghost use Rattle.std.specs.Prelude.{◌≡◌, ◌≢◌, ◌<◌, true, false, length, IfOk, IfSome, IfNone, MatchResult, Some, None, slice_get};
+ghost use Rattle.user_ops.specs.Told.{ToldExtractor};
+ghost use Rattle.scope_app.specs.Plans.{IsPlanOf, IsReadingOf, extractor_of};
+ghost use Rattle.scope_app.specs.ScriptText.{IsScriptText, IsFaultAt};
+
+use crate::pipeline::{Pipeline, pipeline_of};
+use crate::status::ScriptPlace;
+use scope_lexer::lex;
+use scope_syntax::{Script, parse};
+use scope_value::{Cell, Schema};
+use std::alloc::{AllocError, Global};
+use user_ops::{Extractor, OpSet, Tells};
+
+/// What is to be done for a text: it is none, it is outside the language, it is no script that runs yet, or it runs so, by the extractor at
+/// that place.
+#[derive(Debug, Drop)]
+pub enum Plan {
+    NotText,
+    Fault(ScriptPlace),
+    NoForm,
+    Runs(Pipeline, usize),
+}
+
+// The script of a text, or where it leaves the language.
+enum Reading {
+    NotText,
+    Fault(ScriptPlace),
+    Script(Script),
+}
+
+/// What is to be done for the text, with these operators. An error is want of memory alone.
+pub fn plan_of(alloc: Global, bytes: &[u8], ops: &OpSet) -> Result<Plan, AllocError>
+    ensures { IfOk result (λ plan. IsPlanOf (⟦<OpSet as Tells>⟧.tells ops.now) bytes.now plan) }
+{
+    let script = match read_script(alloc, bytes)? {
+        Reading::NotText => return Ok(Plan::NotText),
+        Reading::Fault(place) => return Ok(Plan::Fault(place)),
+        Reading::Script(script) => script,
+    };
+    let Some(pipeline) = pipeline_of(alloc, &script)? else {
+        return Ok(Plan::NoForm);
+    };
+    match extractor_place(&pipeline, ops) {
+        Some(place) => Ok(Plan::Runs(pipeline, place)),
+        None => Ok(Plan::NoForm),
+    }
+}
+
+fn read_script(alloc: Global, bytes: &[u8]) -> Result<Reading, AllocError>
+    ensures { IfOk result (λ reading. IsReadingOf bytes.now reading) }
+{
+    let Ok(text) = std::str::from_utf8(bytes) else {
+        return Ok(Reading::NotText);
+    };
+    let tokens = match lex(alloc, text)? {
+        Ok(tokens) => tokens,
+        Err(fault) => return Ok(Reading::Fault(ScriptPlace::Lex(fault))),
+    };
+    match parse(alloc, text, tokens.as_slice())? {
+        Ok(script) => Ok(Reading::Script(script)),
+        Err(fault) => Ok(Reading::Fault(ScriptPlace::Syntax(fault))),
+    }
+}
+
+// The place of the extractor that the pipeline calls, where there is one and it takes the columns and args.
+fn extractor_place(pipeline: &Pipeline, ops: &OpSet) -> Option<usize>
+    ensures some { IfSome result (λ place. (place < length (⟦<OpSet as Tells>⟧.tells ops.now).extractors)
+        × (slice_get (⟦<OpSet as Tells>⟧.tells ops.now).extractors place ≡ extractor_of (⟦<OpSet as Tells>⟧.tells ops.now) pipeline.now)) }
+    ensures none { IfNone result (extractor_of (⟦<OpSet as Tells>⟧.tells ops.now) pipeline.now ≡ None) }
+{
+    let Some(place) = ops.find_extractor(pipeline.call.op.as_slice()) else {
+        return None;
+    };
+    if takes(
+        ops.extractor_at(place),
+        &pipeline.columns,
+        pipeline.call.args.as_slice(),
+    ) {
+        Some(place)
+    } else {
+        None
+    }
+}
+
+fn takes(op: &Box<dyn Extractor>, columns: &Schema, args: &[Cell]) -> bool
+    ensures { result ≡ (told_extractor op.now).takes columns.now args.now }
+{
+    op.accepts(columns, args)
+}
