@@ -1,22 +1,61 @@
-//! The program `scope`: hands the process's words and files to the top call, says how that ended, and ends with its number.
+//! The program `scope`: hands the process's words, its files and the shipped operators to the top call, says how that ended, and ends with
+//! its number.
 #![tactic(auto)]
 
 use scope_app::{Status, scope_main, status_line, status_number};
 use scope_outside::FileStore;
+use scope_shipped::{
+    InnerPairs, LogExtractor, MultiSetDifference, SplitWords, TextExtractor, TopQueries,
+};
+use scope_value::Cell;
 use std::alloc::{AllocError, Global};
 use std::env;
 use std::io::{self, Write};
 use std::process::ExitCode;
 use std::rt::Env;
+use user_ops::OpSet;
+
+// The names of the shipped operators.
+#[derive(Drop)]
+struct Names {
+    log: Cell,
+    text: Cell,
+    split: Cell,
+    top: Cell,
+    difference: Cell,
+    pairs: Cell,
+}
 
 fn main(rt: HostRuntime) -> io::Result<ExitCode> {
     let alloc = rt.alloc();
-    let status = match words_of(&rt, alloc) {
-        Ok(words) => {
-            let mut store = FileStore::new(alloc, &rt);
-            scope_main(alloc, words.as_slice(), &mut store)
-        }
-        Err(_) => Status::NoMemory,
+    let status = match (
+        words_of(&rt, alloc),
+        shipped_names(alloc),
+        Box::new(alloc, LogExtractor),
+        Box::new(alloc, TextExtractor),
+        Box::new(alloc, SplitWords),
+        Box::new(alloc, TopQueries),
+        Box::new(alloc, MultiSetDifference),
+        Box::new(alloc, InnerPairs),
+    ) {
+        (Ok(words), Ok(names), Ok(log), Ok(text), Ok(split), Ok(top), Ok(difference), Ok(pairs)) =>
+            {
+                let mut ops = OpSet::new(alloc);
+                // No name stands twice, so that a refusal is want of memory.
+                if ops.add_extractor(names.log, log).is_ok()
+                    && ops.add_extractor(names.text, text).is_ok()
+                    && ops.add_processor(names.split, split).is_ok()
+                    && ops.add_reducer(names.top, top).is_ok()
+                    && ops.add_combiner(names.difference, difference).is_ok()
+                    && ops.add_combiner(names.pairs, pairs).is_ok()
+                {
+                    let mut store = FileStore::new(alloc, &rt);
+                    scope_main(alloc, words.as_slice(), &mut store, &ops)
+                } else {
+                    Status::NoMemory
+                }
+            }
+        _ => Status::NoMemory,
     };
     let mut line = Vec::new(alloc);
     // Where memory for the line is refused, the number alone tells how the call ended.
@@ -24,6 +63,17 @@ fn main(rt: HostRuntime) -> io::Result<ExitCode> {
         rt.stderr().write_all(line.as_slice())?;
     }
     Ok(ExitCode::from(exit_code(&status)))
+}
+
+fn shipped_names(alloc: Global) -> Result<Names, AllocError> {
+    Ok(Names {
+        log: Cell::from_slice(alloc, b"LogExtractor")?,
+        text: Cell::from_slice(alloc, b"TextExtractor")?,
+        split: Cell::from_slice(alloc, b"SplitWords")?,
+        top: Cell::from_slice(alloc, b"TopQueries")?,
+        difference: Cell::from_slice(alloc, b"MultiSetDifference")?,
+        pairs: Cell::from_slice(alloc, b"InnerPairs")?,
+    })
 }
 
 // The process's words, with `scope` in place of the program's own name; none where a word isn't UTF-8, which no reading takes.
