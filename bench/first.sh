@@ -8,14 +8,6 @@ cd "$folder"
 cp "$top/examples/first/s" s
 for rows in 100000 1000000; do
   seq "$rows" | sed 's/.*/1,x/' > in
-  "$top/scope" run s
+  python3 "$top/bench/measure.py" "$top/scope" "$rows rows"
   cmp -s in out || { echo "the output differs" >&2; exit 1; }
-  python3 - "$top/scope" "$rows" <<'PY'
-import resource, subprocess, sys, time
-start = time.monotonic()
-subprocess.run([sys.argv[1], "run", "s"], check=True)
-seconds = time.monotonic() - start
-peak = resource.getrusage(resource.RUSAGE_CHILDREN).ru_maxrss
-print(f"{sys.argv[2]} rows: {seconds:.2f} s, {peak / 1024:.0f} MiB")
-PY
 done
