@@ -1,0 +1,259 @@
+-- Facts to which those of leaves were added.
+use Rattle.std.proofs.Common.{◌≡◌, ℕ, ◌<◌, ◌/◌, ◌%◌, Bool, true, false, cond, ◌&&◌, List, [], ◌∷◌, ◌++◌, nat_eq, nat_lt, refl, sym, ap, ◌∙◌, subst, arith, ◌⊎◌, inl, inr}
+use Rattle.std.specs.Prelude.{◌↔◌}
+use Rattle.std.proofs.lemmas.Bool.Decides.{nat_tests}
+use Rattle.col_sets.specs.Sets.{has, union, IsColumnSet}
+use Rattle.col_sets.specs.Columns.{columns_where-set, columns_none, sets_same, union_has, has_union}
+use Rattle.col_sets.specs.Tests.{both, and_true, same_tests, from_test, to_test}
+use Rattle.fd_closure.specs.declared.facts.Facts.{Facts}
+use Rattle.fd_closure.specs.Known.{by_of, equal_of}
+use Rattle.logical_dag.specs.Tree.{Expression}
+use Rattle.logical_dag.specs.Formed.{IsFormed}
+use Rattle.logical_dag.specs.Facts.{IsLinked, stated, IsConstant, Determines, AreEqual}
+use Rattle.logical_dag.specs.Known.{IsDependency, AreConstants, AreDependencies, AreClasses}
+use Rattle.logical_dag.specs.BlockFacts.{SomeLeaf, columns_of_all, IsInside, AreFactsOfAll}
+use Rattle.logical_dag.specs.Places.{chosen}
+use Rattle.logical_dag.specs.Gathered.{bits_after, IsBlank, IsOverColumns, AreAdded}
+use Rattle.logical_dag.proofs.Classes.{linked_bind, linked_same, classes_start, classes_same, classes_linked}
+use Rattle.logical_dag.proofs.KnownColumns.{columns_set, known_about}
+use Rattle.logical_dag.proofs.Leaves.{some_left, some_right, some_either, EachLeaf, HasSet, HasColumn, all_columns_set, all_columns_some, some_all_columns, some_below}
+use Rattle.logical_dag.proofs.PairFacts.{EqualOrInside}
+
+-- ---- masks
+
+-- the chosen ones of two lists
+pub chosen-append : {X : Type 0} (mask : ℕ) (xs ys : List X) → chosen mask (xs ++ ys) ≡ chosen mask xs ++ chosen (bits_after xs mask) ys
+chosen-append mask [] ys = refl
+chosen-append {X = X} mask (x ∷ xs) ys = go (nat_eq (mask % 2) 1) (chosen-append (mask / 2) xs ys)
+  where
+    go : (b : Bool) → chosen (mask / 2) (xs ++ ys) ≡ chosen (mask / 2) xs ++ chosen (bits_after xs (mask / 2)) ys
+        → cond b (x ∷ chosen (mask / 2) (xs ++ ys)) (chosen (mask / 2) (xs ++ ys)) ≡ cond b (x ∷ chosen (mask / 2) xs) (chosen (mask / 2) xs) ++ chosen (bits_after xs (mask / 2)) ys
+    go true h = ap (λ zs. x ∷ zs) h
+    go false h = h
+
+-- and the bits after both
+pub bits_after-append : {X : Type 0} (xs ys : List X) (mask : ℕ) → bits_after (xs ++ ys) mask ≡ bits_after ys (bits_after xs mask)
+bits_after-append [] ys mask = refl
+bits_after-append (x ∷ xs) ys mask = bits_after-append xs ys (mask / 2)
+
+module _ (shared : List Facts) (results : List (List ℕ)) where
+  -- ---- what leaves that are formed speak of
+
+  -- a column that some leaf determines is one of its columns
+  pub determined_column : (leaves : List Expression) → EachLeaf (IsFormed results) leaves → (s : List ℕ) (c : ℕ) → SomeLeaf (λ t. Determines shared t s c) leaves → SomeLeaf (HasColumn c) leaves
+  determined_column [] formed s c h = absurd h
+  determined_column (t ∷ leaves) formed s c (inl h) = inl ((known_about shared results t (formed t (inl refl))).determined s c h)
+  determined_column (t ∷ leaves) formed s c (inr h) = inr (determined_column leaves (λ u m. formed u (inr m)) s c h)
+
+  leaf_sets : (leaves : List Expression) → EachLeaf (IsFormed results) leaves → EachLeaf HasSet leaves
+  leaf_sets leaves formed t m = columns_set results t (formed t m)
+
+  -- a column of the leaves is below 128
+  pub leaf_below : (leaves : List Expression) → EachLeaf (IsFormed results) leaves → (c : ℕ) → SomeLeaf (HasColumn c) leaves → c < 128
+  leaf_below leaves formed c h = some_below leaves (leaf_sets leaves formed) c h
+
+  -- ---- adding
+
+  -- no leaves add nothing
+  pub none_added : (f : Facts) → IsOverColumns f → AreAdded shared f [] f
+  none_added f over = record {
+    columns = sets_same f.columns (union f.columns []) over.set (columns_where-set _) (λ c l. same_tests _ _ (λ h. has_union f.columns [] c l (inl h)) (λ h. one c (union_has f.columns [] c h)));
+    constants = λ c l. (λ h. inl h, λ h. only (has f.constants c ≡ true) h);
+    dependencies = record { stated = λ c l h. inl (l, h, refl); all = λ s c h. let m = only (IsDependency f s c) h in (m.1, λ d. ap (λ (r : List ℕ). has r d) m.2) };
+    classes = classes_same f (λ c d. equal_of f c d ≡ true) (classes_start f over.own) (λ c d. (equal_of f c d ≡ true) ⊎ ⊥) (λ a b h. stated (inl h)) (λ a b h. stated (only (equal_of f a b ≡ true) h));
+  }
+    where
+      only : (A : Type 0) → A ⊎ ⊥ → A
+      only A (inl h) = h
+      only A (inr h) = absurd h
+
+      one : (c : ℕ) → (has f.columns c ≡ true) ⊎ (has [] c ≡ true) → has f.columns c ≡ true
+      one c (inl h) = h
+      one c (inr h) = absurd (cc)
+
+  -- with leaves added the facts are still over a set of columns
+  pub added_over : (f g : Facts) (leaves : List Expression) → EachLeaf (IsFormed results) leaves → IsOverColumns f → AreAdded shared f leaves g → IsOverColumns g
+  added_over f g leaves formed over added = record {
+    set = subst (λ (s : List ℕ). IsColumnSet s) (sym added.columns) (columns_where-set _);
+    own = added.classes.own;
+    within = λ c l h. subst (λ (s : List ℕ). has s c ≡ true) (sym added.columns) (has_union f.columns (columns_of_all leaves) c l (go c l (added.dependencies.stated c l h)));
+  }
+    where
+      go : (c : ℕ) → c < 128 → IsDependency f (by_of g c) c ⊎ SomeLeaf (λ t. Determines shared t (by_of g c) c) leaves → (has f.columns c ≡ true) ⊎ (has (columns_of_all leaves) c ≡ true)
+      go c l (inl h) = inl (over.within c l h.1)
+      go c l (inr h) = inr (some_all_columns leaves c l (determined_column leaves formed (by_of g c) c h))
+
+  -- some leaves and then others are all of them
+  module _ (f g h : Facts) (xs ys : List Expression) (formed : EachLeaf (IsFormed results) xs) (first : AreAdded shared f xs g) (second : AreAdded shared g ys h) where
+    both_columns : union (union f.columns (columns_of_all xs)) (columns_of_all ys) ≡ union f.columns (columns_of_all (xs ++ ys))
+    both_columns = sets_same _ _ (columns_where-set _) (columns_where-set _) (λ c l. same_tests _ _ (λ m. forth c l (union_has _ _ c m)) (λ m. back c l (union_has _ _ c m)))
+      where
+        into_all : (c : ℕ) → c < 128 → (has f.columns c ≡ true) ⊎ SomeLeaf (HasColumn c) (xs ++ ys) → has (union f.columns (columns_of_all (xs ++ ys))) c ≡ true
+        into_all c l (inl m) = has_union f.columns (columns_of_all (xs ++ ys)) c l (inl m)
+        into_all c l (inr m) = has_union f.columns (columns_of_all (xs ++ ys)) c l (inr (some_all_columns (xs ++ ys) c l m))
+
+        forth : (c : ℕ) → c < 128 → (has (union f.columns (columns_of_all xs)) c ≡ true) ⊎ (has (columns_of_all ys) c ≡ true) → has (union f.columns (columns_of_all (xs ++ ys))) c ≡ true
+        forth c l (inr m) = into_all c l (inr (some_right (HasColumn c) xs ys (all_columns_some ys c m)))
+        forth c l (inl m) = go (union_has f.columns (columns_of_all xs) c m)
+          where
+            go : (has f.columns c ≡ true) ⊎ (has (columns_of_all xs) c ≡ true) → has (union f.columns (columns_of_all (xs ++ ys))) c ≡ true
+            go (inl n) = into_all c l (inl n)
+            go (inr n) = into_all c l (inr (some_left (HasColumn c) xs ys (all_columns_some xs c n)))
+
+        back : (c : ℕ) → c < 128 → (has f.columns c ≡ true) ⊎ (has (columns_of_all (xs ++ ys)) c ≡ true) → has (union (union f.columns (columns_of_all xs)) (columns_of_all ys)) c ≡ true
+        back c l (inl m) = has_union _ _ c l (inl (has_union _ _ c l (inl m)))
+        back c l (inr m) = go (some_either (HasColumn c) xs ys (all_columns_some (xs ++ ys) c m))
+          where
+            go : SomeLeaf (HasColumn c) xs ⊎ SomeLeaf (HasColumn c) ys → has (union (union f.columns (columns_of_all xs)) (columns_of_all ys)) c ≡ true
+            go (inl n) = has_union _ _ c l (inl (has_union _ _ c l (inr (some_all_columns xs c l n))))
+            go (inr n) = has_union _ _ c l (inr (some_all_columns ys c l n))
+
+    both_constants : AreConstants h (λ c. (has f.constants c ≡ true) ⊎ SomeLeaf (λ t. IsConstant shared t c) (xs ++ ys))
+    both_constants c l = (λ m. forth ((second.constants c l).0 m), λ m. (second.constants c l).1 (back m))
+      where
+        forth : (has g.constants c ≡ true) ⊎ SomeLeaf (λ t. IsConstant shared t c) ys → (has f.constants c ≡ true) ⊎ SomeLeaf (λ t. IsConstant shared t c) (xs ++ ys)
+        forth (inr m) = inr (some_right (λ t. IsConstant shared t c) xs ys m)
+        forth (inl m) = go ((first.constants c l).0 m)
+          where
+            go : (has f.constants c ≡ true) ⊎ SomeLeaf (λ t. IsConstant shared t c) xs → (has f.constants c ≡ true) ⊎ SomeLeaf (λ t. IsConstant shared t c) (xs ++ ys)
+            go (inl n) = inl n
+            go (inr n) = inr (some_left (λ t. IsConstant shared t c) xs ys n)
+
+        back : (has f.constants c ≡ true) ⊎ SomeLeaf (λ t. IsConstant shared t c) (xs ++ ys) → (has g.constants c ≡ true) ⊎ SomeLeaf (λ t. IsConstant shared t c) ys
+        back (inl m) = inl ((first.constants c l).1 (inl m))
+        back (inr m) = go (some_either (λ t. IsConstant shared t c) xs ys m)
+          where
+            go : SomeLeaf (λ t. IsConstant shared t c) xs ⊎ SomeLeaf (λ t. IsConstant shared t c) ys → (has g.constants c ≡ true) ⊎ SomeLeaf (λ t. IsConstant shared t c) ys
+            go (inl n) = inl ((first.constants c l).1 (inr n))
+            go (inr n) = inr n
+
+    both_dependencies : AreDependencies h (λ s c. IsDependency f s c ⊎ SomeLeaf (λ t. Determines shared t s c) (xs ++ ys))
+    both_dependencies = record { stated = λ c l m. forth c l (second.dependencies.stated c l m); all = all }
+      where
+        forth : (c : ℕ) → c < 128 → IsDependency g (by_of h c) c ⊎ SomeLeaf (λ t. Determines shared t (by_of h c) c) ys
+            → IsDependency f (by_of h c) c ⊎ SomeLeaf (λ t. Determines shared t (by_of h c) c) (xs ++ ys)
+        forth c l (inr m) = inr (some_right (λ t. Determines shared t (by_of h c) c) xs ys m)
+        forth c l (inl m) = subst (λ (s : List ℕ). IsDependency f s c ⊎ SomeLeaf (λ t. Determines shared t s c) (xs ++ ys)) (sym m.2) (go (first.dependencies.stated c l m.1))
+          where
+            go : IsDependency f (by_of g c) c ⊎ SomeLeaf (λ t. Determines shared t (by_of g c) c) xs → IsDependency f (by_of g c) c ⊎ SomeLeaf (λ t. Determines shared t (by_of g c) c) (xs ++ ys)
+            go (inl n) = inl n
+            go (inr n) = inr (some_left (λ t. Determines shared t (by_of g c) c) xs ys n)
+
+        earlier : (s : List ℕ) (c : ℕ) → c < 128 → IsDependency f s c ⊎ SomeLeaf (λ t. Determines shared t s c) xs → (has h.determined c ≡ true) × ((d : ℕ) → has s d ≡ has (by_of h c) d)
+        earlier s c l m =
+            let one = first.dependencies.all s c m in
+            let two = second.dependencies.all (by_of g c) c (inl (l, one.0, refl)) in
+            (two.0, λ d. one.1 d ∙ two.1 d)
+
+        all : (s : List ℕ) (c : ℕ) → IsDependency f s c ⊎ SomeLeaf (λ t. Determines shared t s c) (xs ++ ys) → (has h.determined c ≡ true) × ((d : ℕ) → has s d ≡ has (by_of h c) d)
+        all s c (inl m) = earlier s c m.0 (inl m)
+        all s c (inr m) = go (some_either (λ t. Determines shared t s c) xs ys m)
+          where
+            go : SomeLeaf (λ t. Determines shared t s c) xs ⊎ SomeLeaf (λ t. Determines shared t s c) ys → (has h.determined c ≡ true) × ((d : ℕ) → has s d ≡ has (by_of h c) d)
+            go (inl n) = earlier s c (leaf_below xs formed c (determined_column xs formed s c n)) (inr n)
+            go (inr n) = second.dependencies.all s c (inr n)
+
+    abbrev Alike : ℕ → ℕ → Type 0
+    Alike c d = (equal_of f c d ≡ true) ⊎ SomeLeaf (λ t. AreEqual shared t c d) (xs ++ ys)
+
+    abbrev AlikeLater : ℕ → ℕ → Type 0
+    AlikeLater c d = (equal_of g c d ≡ true) ⊎ SomeLeaf (λ t. AreEqual shared t c d) ys
+
+    both_classes : AreClasses h Alike
+    both_classes = classes_same h AlikeLater second.classes Alike forth back
+      where
+        forth : (c d : ℕ) → AlikeLater c d → IsLinked Alike c d
+        forth c d (inl m) = linked_bind (λ a b. (equal_of f a b ≡ true) ⊎ SomeLeaf (λ t. AreEqual shared t a b) xs) Alike each c d (first.classes.there c d m)
+          where
+            each : (a b : ℕ) → (equal_of f a b ≡ true) ⊎ SomeLeaf (λ t. AreEqual shared t a b) xs → IsLinked Alike a b
+            each a b (inl n) = stated (inl n)
+            each a b (inr n) = stated (inr (some_left (λ t. AreEqual shared t a b) xs ys n))
+        forth c d (inr m) = stated (inr (some_right (λ t. AreEqual shared t c d) xs ys m))
+
+        one : (c d : ℕ) → (c ≡ d) ⊎ (equal_of g c d ≡ true) → IsLinked AlikeLater c d
+        one c d (inl e) = linked_same AlikeLater c d e
+        one c d (inr m) = stated (inl m)
+
+        back : (c d : ℕ) → Alike c d → IsLinked AlikeLater c d
+        back c d (inl m) = one c d (first.classes.back c d (stated (inl m)))
+        back c d (inr m) = go (some_either (λ t. AreEqual shared t c d) xs ys m)
+          where
+            go : SomeLeaf (λ t. AreEqual shared t c d) xs ⊎ SomeLeaf (λ t. AreEqual shared t c d) ys → IsLinked AlikeLater c d
+            go (inl n) = one c d (first.classes.back c d (stated (inr n)))
+            go (inr n) = stated (inr n)
+
+    pub both_added : AreAdded shared f (xs ++ ys) h
+    both_added = record {
+      columns = second.columns ∙ ap (λ (s : List ℕ). union s (columns_of_all ys)) first.columns ∙ both_columns;
+      constants = both_constants;
+      dependencies = both_dependencies;
+      classes = both_classes;
+    }
+
+-- ---- from nothing
+
+-- such facts are over a set of columns
+pub blank_over : (f : Facts) → IsBlank f → IsOverColumns f
+blank_over f blank = record {
+  set = subst (λ (s : List ℕ). IsColumnSet s) (sym blank.columns) columns_none;
+  own = λ c l. blank.equal c c ∙ same c l;
+  within = λ c l h. absurd (let e : has [] c ≡ true = subst (λ (s : List ℕ). has s c ≡ true) blank.determined h in cc);
+}
+  where
+    same : (c : ℕ) → c < 128 → (nat_lt c 128 && nat_eq c c) ≡ true
+    same c l = and_true (nat_lt c 128) (nat_eq c c) (let e : nat_lt c 128 ≡ true = grind (arith, nat_tests) in e) (to_test c c refl)
+
+module _ (shared : List Facts) (leaves : List Expression) (pairs : List (ℕ × ℕ)) (f g h : Facts) (blank : IsBlank f) (added : AreAdded shared f leaves g) (rest : h ≡ record g { class = h.class })
+    (paired : AreClasses h (EqualOrInside g pairs)) where
+  columns_all : g.columns ≡ columns_of_all leaves
+  columns_all =
+      added.columns ∙ ap (λ (s : List ℕ). union s (columns_of_all leaves)) blank.columns
+      ∙ sets_same _ _ (columns_where-set _) (all_columns_set leaves) (λ c l. same_tests _ _ (λ m. one c (union_has [] (columns_of_all leaves) c m)) (λ m. has_union [] (columns_of_all leaves) c l (inr m)))
+    where
+      one : (c : ℕ) → (has [] c ≡ true) ⊎ (has (columns_of_all leaves) c ≡ true) → has (columns_of_all leaves) c ≡ true
+      one c (inl m) = absurd (cc)
+      one c (inr m) = m
+
+  later : (s : List ℕ) (c : ℕ) → IsDependency f s c ⊎ SomeLeaf (λ t. Determines shared t s c) leaves → SomeLeaf (λ t. Determines shared t s c) leaves
+  later s c (inl m) = absurd (let k = subst (λ (r : List ℕ). has r c ≡ true) blank.determined m.1 in let e : has [] c ≡ true = k in cc)
+  later s c (inr m) = m
+
+  -- equal in some leaf, or a pair that lies inside
+  abbrev AlikeOrInside : ℕ → ℕ → Type 0
+  AlikeOrInside c d = SomeLeaf (λ t. AreEqual shared t c d) leaves ⊎ IsInside pairs g.columns c d
+
+  there : (c d : ℕ) → EqualOrInside g pairs c d → IsLinked AlikeOrInside c d
+  there c d (inl m) = linked_bind (λ a b. (equal_of f a b ≡ true) ⊎ SomeLeaf (λ t. AreEqual shared t a b) leaves) AlikeOrInside each c d (added.classes.there c d m)
+    where
+      each : (a b : ℕ) → (equal_of f a b ≡ true) ⊎ SomeLeaf (λ t. AreEqual shared t a b) leaves → IsLinked AlikeOrInside a b
+      each a b (inl n) = linked_same AlikeOrInside a b (from_test a b (both (nat_lt a 128) (nat_eq a b) (sym (blank.equal a b) ∙ n)).1)
+      each a b (inr n) = stated (inl n)
+  there c d (inr m) = stated (inr m)
+
+  back : (c d : ℕ) → AlikeOrInside c d → IsLinked (EqualOrInside g pairs) c d
+  back c d (inl m) = go (added.classes.back c d (stated (inr m)))
+    where
+      go : (c ≡ d) ⊎ (equal_of g c d ≡ true) → IsLinked (EqualOrInside g pairs) c d
+      go (inl e) = linked_same (EqualOrInside g pairs) c d e
+      go (inr n) = stated (inl n)
+  back c d (inr m) = stated (inr m)
+
+  -- the facts of the leaves, with the pairs, are the facts of all of them
+  pub facts_of_all : AreFactsOfAll shared pairs leaves h
+  facts_of_all = record {
+    columns = ap (λ k. k.columns) rest ∙ columns_all;
+    constants = λ c l. (
+      λ m. start c ((added.constants c l).0 (subst (λ (s : List ℕ). has s c ≡ true) (ap (λ k. k.constants) rest) m)),
+      λ m. subst (λ (s : List ℕ). has s c ≡ true) (sym (ap (λ k. k.constants) rest)) ((added.constants c l).1 (inr m)),
+    );
+    stated = λ c l m. subst (λ (k : Facts). SomeLeaf (λ t. Determines shared t (by_of k c) c) leaves) (sym rest)
+        (later (by_of g c) c (added.dependencies.stated c l (subst (λ (s : List ℕ). has s c ≡ true) (ap (λ k. k.determined) rest) m)));
+    all = λ s c m. subst (λ (k : Facts). (has k.determined c ≡ true) × ((d : ℕ) → has s d ≡ has (by_of k c) d)) (sym rest) (added.dependencies.all s c (inr m));
+    equal = λ c d l m.
+        subst (λ (cols : List ℕ). (equal_of h c d ≡ true) ↔ IsLinked (λ a b. SomeLeaf (λ t. AreEqual shared t a b) leaves ⊎ IsInside pairs cols a b) c d) (sym (ap (λ k. k.columns) rest))
+        (classes_linked h AlikeOrInside (classes_same h (EqualOrInside g pairs) paired AlikeOrInside there back) c d l m);
+  }
+    where
+      start : (c : ℕ) → (has f.constants c ≡ true) ⊎ SomeLeaf (λ t. IsConstant shared t c) leaves → SomeLeaf (λ t. IsConstant shared t c) leaves
+      start c (inl m) = absurd (let e : has [] c ≡ true = subst (λ (s : List ℕ). has s c ≡ true) blank.constants m in cc)
+      start c (inr m) = m

@@ -1,0 +1,148 @@
+-- The first elements of a bag, at once and from a part that holds them.
+use Rattle.std.proofs.Common.{◌≡◌, ℕ, zero, suc, Bool, true, false, cond, List, [], ◌∷◌, ◌++◌, take, drop, refl, sym, ap, subst, ◌∙◌, arith, append_assoc, take-append-drop, IsPermutation, Ordering, Equal}
+use Rattle.std.specs.Ordering.{is_gt, eq_by_cmp}
+use Rattle.std.specs.Cmp.{IsTotalOrder}
+use Rattle.std.specs.List.{AllByRecursion}
+use Rattle.std.proofs.lemmas.Cmp.{upto}
+use Rattle.std.proofs.lemmas.List.Sorted.{IsPermutation-refl, IsPermutation-trans, IsPermutation-sym, IsPermutation-cons, IsPermutation-middle, IsPermutation-append_left, length_permutation}
+use Rattle.scope_value.specs.Order.{eq_by_cmp-decides}
+use Rattle.scope_value.specs.Sorted.{sorted, insert_by, IsInOrder}
+use Rattle.logical_dag.proofs.Bags.{along_permutation, same_permuted}
+use Rattle.logical_dag.proofs.OrderLemmas.{either_way, sorted_permuted, sorted_moved}
+
+-- what holds of each element of two lists
+all_append : {X : Type 0} (P : X → Type 0) (A B : List X) → AllByRecursion P A → AllByRecursion P B → AllByRecursion P (A ++ B)
+all_append P [] B h k = k
+all_append P (x ∷ A) B h k = (h.0, all_append P A B h.1 k)
+
+all_first : {X : Type 0} (P : X → Type 0) (A B : List X) → AllByRecursion P (A ++ B) → AllByRecursion P A
+all_first P [] B h = tt
+all_first P (x ∷ A) B h = (h.0, all_first P A B h.1)
+
+all_second : {X : Type 0} (P : X → Type 0) (A B : List X) → AllByRecursion P (A ++ B) → AllByRecursion P B
+all_second P [] B h = h
+all_second P (x ∷ A) B h = all_second P A B h.1
+
+-- what holds of each element does so in any order
+pub all_permuted : {X : Type 0} (P : X → Type 0) (A B : List X) → IsPermutation A B → AllByRecursion P A → AllByRecursion P B
+all_permuted P =
+    along_permutation (λ A B. AllByRecursion P A → AllByRecursion P B) (λ A h. h) (λ x A B f h. (h.0, f h.1)) (λ x y A h. (h.1.0, (h.0, h.1.1))) (λ A B C f g h. g (f h))
+
+-- a list that is one bag with no elements has none
+empty : {X : Type 0} (A B : List X) → IsPermutation [] (A ++ B) → A ≡ []
+empty [] B h = refl
+empty (a ∷ A) B h = absurd (let e = length_permutation _ _ h in omega arith)
+
+-- the first elements of the first elements and more are these, where the list is long enough or there is no more
+first_again : {X : Type 0} (n : ℕ) (S more : List X) → (drop n S ≡ [] → more ≡ []) → take n (take n S ++ more) ≡ take n S
+first_again zero S more h = refl
+first_again (suc n) [] more h = rw (h refl)
+first_again (suc n) (s ∷ S) more h = ap (λ l. s ∷ l) (first_again n S more h)
+
+module _ {X : Type 0} {cmp : X → X → Ordering} (total : IsTotalOrder cmp) (exact : (x y : X) → cmp x y ≡ Equal → x ≡ y) where
+  -- ---- the least elements
+
+  -- no element of the list is below r
+  abbrev IsLeast : X → List X → Type 0
+  IsLeast r A = AllByRecursion (λ s. is_gt (cmp r s) ≡ false) A
+
+  least_lower : (r s : X) (A : List X) → is_gt (cmp r s) ≡ false → IsLeast s A → IsLeast r A
+  least_lower r s [] h k = tt
+  least_lower r s (t ∷ A) h k = (upto total r s t h k.0, least_lower r s A h k.1)
+
+  -- a sorted list keeps what is least
+  least_inserted : (r s : X) (A : List X) → is_gt (cmp r s) ≡ false → IsLeast r A → IsLeast r (insert_by cmp s A)
+  least_inserted r s [] h k = (h, tt)
+  least_inserted r s (t ∷ A) h k =
+      elim (is_gt (cmp s t)) as (λ b. IsLeast r (cond b (t ∷ insert_by cmp s A) (s ∷ t ∷ A))) [ true ↦ (k.0, least_inserted r s A h k.1) | false ↦ (h, k) ]
+
+  least_sorted : (r : X) (A : List X) → IsLeast r A → IsLeast r (sorted cmp A)
+  least_sorted r [] h = tt
+  least_sorted r (s ∷ A) h = least_inserted r s (sorted cmp A) h.0 (least_sorted r A h.1)
+
+  -- a sorted list is in order
+  up_inserted : (r : X) (A : List X) → IsInOrder cmp A → IsInOrder cmp (insert_by cmp r A)
+  up_inserted r [] h = (tt, tt)
+  up_inserted r (s ∷ A) h = at (is_gt (cmp r s)) refl (up_inserted r A h.1)
+    where
+      at : (a : Bool) → is_gt (cmp r s) ≡ a → IsInOrder cmp (insert_by cmp r A) → IsInOrder cmp (insert_by cmp r (s ∷ A))
+      at false e k = simp e ((refl, least_lower r s A e h.0), h)
+      at true e k = simp e (least_inserted s r A (either_way total exact r s e) h.0, k)
+
+  pub up_sorted : (A : List X) → IsInOrder cmp (sorted cmp A)
+  up_sorted [] = tt
+  up_sorted (r ∷ A) = up_inserted r (sorted cmp A) (up_sorted A)
+
+  -- a least element comes first
+  inserted_least : (r : X) (A : List X) → IsLeast r A → insert_by cmp r A ≡ r ∷ A
+  inserted_least r [] h = refl
+  inserted_least r (s ∷ A) h = let e : is_gt (cmp r s) ≡ false = h.0 in simp e
+
+  -- ---- an element taken from both sides
+
+  -- the list without the first place of an element
+  abbrev without : X → List X → List X
+  without r [] = []
+  without r (s ∷ A) = cond (eq_by_cmp cmp r s) A (s ∷ without r A)
+
+  -- one bag, and one bag without r
+  abbrev Alike : X → List X → List X → Type 0
+  Alike r A B = IsPermutation A B × IsPermutation (without r A) (without r B)
+
+  alike_later : (r x : X) (A B : List X) → Alike r A B → Alike r (x ∷ A) (x ∷ B)
+  alike_later r x A B h = (
+    IsPermutation-cons x A B h.0,
+    elim (eq_by_cmp cmp r x) as (λ b. IsPermutation (cond b A (x ∷ without r A)) (cond b B (x ∷ without r B))) [ true ↦ h.0 | false ↦ IsPermutation-cons x _ _ h.1 ],
+  )
+
+  alike_turned : (r x y : X) (A : List X) → Alike r (x ∷ y ∷ A) (y ∷ x ∷ A)
+  alike_turned r x y A = (IsPermutation-middle (x ∷ []) y A, at (eq_by_cmp cmp r x) (eq_by_cmp cmp r y) refl refl)
+    where
+      same : (s : X) → eq_by_cmp cmp r s ≡ true → r ≡ s
+      same s = (eq_by_cmp-decides total exact r s).0
+
+      at : (a b : Bool) → eq_by_cmp cmp r x ≡ a → eq_by_cmp cmp r y ≡ b → IsPermutation (without r (x ∷ y ∷ A)) (without r (y ∷ x ∷ A))
+      at true true e f = simp (e, f) (same_permuted _ _ (ap (λ z. z ∷ A) (sym (same y f) ∙ same x e)))
+      at true false e f = simp (e, f) (IsPermutation-refl _)
+      at false true e f = simp (e, f) (IsPermutation-refl _)
+      at false false e f = simp (e, f) (IsPermutation-middle (x ∷ []) y _)
+
+  without_permuted : (r : X) (A B : List X) → IsPermutation A B → Alike r A B
+  without_permuted r = along_permutation (Alike r) (λ A. (IsPermutation-refl _, IsPermutation-refl _)) (alike_later r) (alike_turned r)
+      (λ A B C p q. (IsPermutation-trans _ _ _ p.0 q.0, IsPermutation-trans _ _ _ p.1 q.1))
+
+  one_less : (r : X) (A B : List X) → IsPermutation (r ∷ A) (r ∷ B) → IsPermutation A B
+  one_less r A B h =
+      let e : eq_by_cmp cmp r r ≡ true = (eq_by_cmp-decides total exact r r).1 refl in
+      let less : IsPermutation (cond (eq_by_cmp cmp r r) A (r ∷ without r A)) (cond (eq_by_cmp cmp r r) B (r ∷ without r B)) = (without_permuted r _ _ h).1 in
+      simp e at less
+
+  -- what is left where the same is taken from two lists that are one bag
+  pub rest_same : (T A B : List X) → IsPermutation (T ++ A) (T ++ B) → IsPermutation A B
+  rest_same [] A B h = h
+  rest_same (t ∷ T) A B h = rest_same T A B (one_less t _ _ h)
+
+  -- ---- the first elements from a part that holds them
+
+  -- elements that come first in a bag come first in a part that has them
+  in_front : (T R more out : List X) → IsInOrder cmp (T ++ R) → IsPermutation R (more ++ out) → sorted cmp (T ++ more) ≡ T ++ sorted cmp more
+  in_front [] R more out up h = refl
+  in_front (t ∷ T) R more out up h =
+      let P : X → Type 0 = λ s. is_gt (cmp t s) ≡ false in
+      let low : IsLeast t more = all_first P more out (all_permuted P _ _ h (all_second P T R up.0)) in
+      ap (insert_by cmp t) (in_front T R more out up.1 h) ∙ inserted_least t _ (all_append P T (sorted cmp more) (all_first P T R up.0) (least_sorted t more low))
+
+  -- any part of a bag that holds its first elements has the same first elements
+  pub first_of_part : (n : ℕ) (A B out rest : List X) → IsPermutation (B ++ out) A → IsPermutation (take n (sorted cmp A) ++ rest) B → take n (sorted cmp B) ≡ take n (sorted cmp A)
+  first_of_part n A B out rest whole holds =
+      let S = sorted cmp A in
+      let T = take n S in
+      let R = drop n S in
+      let halves : T ++ R ≡ S = take-append-drop n S in
+      let made : IsPermutation (T ++ (rest ++ out)) (T ++ R) =
+      IsPermutation-trans _ _ _ (rw (← append_assoc T rest out) (IsPermutation-append_left out _ _ holds))
+      (IsPermutation-trans _ _ _ whole (IsPermutation-trans _ _ _ (IsPermutation-sym _ _ (sorted_moved cmp A)) (same_permuted _ _ (sym halves)))) in
+      let later = IsPermutation-sym _ _ (rest_same T (rest ++ out) R made) in
+      let front = in_front T R rest out (subst (IsInOrder cmp) (sym halves) (up_sorted A)) later in
+      ap (take n) (sym (sorted_permuted total exact _ _ holds) ∙ front)
+      ∙ first_again n S (sorted cmp rest) (λ e. ap (sorted cmp) (empty rest out (subst (λ (l : List X). IsPermutation l (rest ++ out)) e later)))

@@ -1,0 +1,350 @@
+-- The columns of an expression are a set, and its facts speak of no others.
+use Rattle.std.proofs.Common.{◌≡◌, ◌≢◌, ℕ, zero, suc, ◌+◌, ◌<◌, ◌≤◌, if◌then◌else◌, Bool, true, false, List, [], ◌∷◌, map, refl, sym, ap, ◌∙◌, subst, arith, ◌⊎◌, inl, inr, nat_lt, Option, Some, None, slice_get}
+use Rattle.std.specs.Prelude.{Contains, All, position}
+use Rattle.std.specs.List.{filter, range_with_len}
+use Rattle.std.specs.Option.{option_and_then}
+use Rattle.std.proofs.lemmas.Bool.Decides.{nat_tests}
+use Rattle.std.proofs.lemmas.List.Elements.{All-contains}
+use Rattle.col_sets.specs.Sets.{has, columns_where, union, rank, IsColumnSet}
+use Rattle.col_sets.specs.Columns.{inside, has-filter, columns_where-set, has_below, has_union}
+use Rattle.col_sets.specs.Tests.{both, or_left, or_right, to_test}
+use Rattle.structural_props.specs.Actions.{In}
+use Rattle.scope_expr.specs.declared.op.PairOp.TheVariants.{And, Eq}
+use Rattle.scope_expr.specs.declared.expr.Expr.{Expr, end_of-Expr, more_of-Expr}
+use Rattle.scope_expr.specs.declared.expr.Expr.TheVariants.{Literal, Col, Neg', Not', Pair'}
+use Rattle.fd_closure.specs.declared.facts.Facts.{Facts}
+use Rattle.logical_dag.specs.declared.agg.Agg.{Agg}
+use Rattle.logical_dag.specs.declared.args.GroupArgs.{GroupArgs}
+use Rattle.logical_dag.specs.declared.logic_op.LogicOp.TheVariants.{Ref, Filter, Project, Join, Group, Process, Reduce, Combine, Partial, Finish}
+use Rattle.logical_dag.specs.Tree.{Expression, leaf, one, two, group_columns, columns_of}
+use Rattle.logical_dag.specs.Formed.{IsGroup, IsOver, IsFormed}
+use Rattle.logical_dag.specs.Facts.{IsLinked, stated, itself, turned, chained, SomeConjunct, Equates, IsColumnAndLiteral, AreColumns, SetsConstant, SetsEqual, is_column, ref_name, item_name, key_name, Renamed, BothRenamed, DependencyRenamed, IsAggregate, AreSameItem, result_columns, IsConstant, Determines, AreEqual}
+use Rattle.logical_dag.proofs.RowValues.{in_list}
+
+-- a column at a place of a list is in it
+pub has_at : (s : List ℕ) (i c : ℕ) → slice_get s i ≡ Some c → has s c ≡ true
+has_at [] i c h = absurd (cc)
+has_at (d ∷ s) zero c h = let e : d ≡ c = cc in or_left _ _ (to_test d c e)
+has_at (d ∷ s) (suc i) c h = or_right _ _ (has_at s i c h)
+
+-- columns above a number are not below it
+rank_above : (p : ℕ → Bool) (n a c : ℕ) → c ≤ a → rank (filter p (range_with_len a n)) c ≡ 0
+rank_above p zero a c l = refl
+rank_above p (suc n) a c l = go (rank_above p n (a + 1) c (omega arith)) (p a) refl
+  where
+    past : nat_lt a c ≡ false
+    past = grind (arith, nat_tests)
+
+    go : rank (filter p (range_with_len (a + 1) n)) c ≡ 0 → (b : Bool) → p a ≡ b → rank (filter p (range_with_len a (suc n))) c ≡ 0
+    go more true e = rw (e, past) more
+    go more false e = rw e more
+
+-- a column of a range that passes has as many below it as its place says
+range_rank : (p : ℕ → Bool) (n a i c : ℕ) → slice_get (filter p (range_with_len a n)) i ≡ Some c → rank (filter p (range_with_len a n)) c ≡ i
+range_rank p zero a i c h = absurd (cc)
+range_rank p (suc n) a i c h = go (range_rank p n (a + 1)) (p a) refl i h
+  where
+    rest : List ℕ
+    rest = filter p (range_with_len (a + 1) n)
+
+    later : (j : ℕ) → slice_get rest j ≡ Some c → nat_lt a c ≡ true
+    later j k = beyond (both (inside (a + 1) n c) (p c) (sym (has-filter p c n (a + 1)) ∙ has_at rest j c k)).0
+      where
+        beyond : inside (a + 1) n c ≡ true → nat_lt a c ≡ true
+        beyond k = grind (arith, nat_tests)
+
+    go : ((j d : ℕ) → slice_get rest j ≡ Some d → rank rest d ≡ j) → (b : Bool) → p a ≡ b → (i : ℕ) → slice_get (filter p (range_with_len a (suc n))) i ≡ Some c
+        → rank (filter p (range_with_len a (suc n))) c ≡ i
+    go more true e zero h =
+        let k : slice_get (a ∷ rest) 0 ≡ Some c = (rw e at h) in
+        let same : a ≡ c = cc in
+        let past : nat_lt a c ≡ false = grind (arith, nat_tests) in
+        rw (e, past) (rank_above p n (a + 1) c (omega arith))
+    go more true e (suc j) h =
+        let k : slice_get rest j ≡ Some c = (rw e at h) in
+        let above : nat_lt a c ≡ true = later j k in
+        rw (e, above) (ap suc (more j c k))
+    go more false e i h = let k : slice_get rest i ≡ Some c = (rw e at h) in rw e (more i c k)
+
+-- as many columns of a set are below one of them as its place says
+pub rank_at : (s : List ℕ) (i c : ℕ) → IsColumnSet s → slice_get s i ≡ Some c → rank s c ≡ i
+unfolding columns_where
+rank_at s i c set h = subst (λ (t : List ℕ). slice_get t i ≡ Some c → rank t c ≡ i) set (range_rank (has s) 128 0 i c) h
+
+-- a place that no column has is past the set's end
+pub no_column : (s : List ℕ) (i : ℕ) → IsColumnSet s → ((c : ℕ) → c < 128 → has s c ≡ true → rank s c ≢ i) → None ≡ slice_get s i
+no_column s i set h = go (slice_get s i) refl
+  where
+    go : (o : Option ℕ) → slice_get s i ≡ o → None ≡ o
+    go None e = refl
+    go (Some c) e = let there = has_at s i c e in absurd (h c (has_below s set c there) there (rank_at s i c set e))
+
+-- the columns of an expression are a set
+pub columns_set : (results : List (List ℕ)) (t : Expression) → IsFormed results t → IsColumnSet (columns_of t)
+columns_set results (leaf (Ref shared cols)) h = h.0
+columns_set results (leaf op) h = h
+columns_set results (one (Project items cols) t) h = h.1.0
+columns_set results (one (Group args) t) h = columns_where-set _
+columns_set results (one (Partial args) t) h = columns_where-set _
+columns_set results (one (Finish args) t) h = columns_where-set _
+columns_set results (one (Process call) t) h = h.1.set
+columns_set results (one (Reduce call on presort) t) h = h.1.0.set
+columns_set results (one op t) h = columns_set results t h.0
+columns_set results (two (Combine call on left right) t u) h = h.2.0.set
+columns_set results (two op t u) h = columns_where-set _
+
+-- a column of either side is one of the union
+pub into_union : (results : List (List ℕ)) (t u : Expression) → IsFormed results t → IsFormed results u → (c : ℕ) → (has (columns_of t) c ≡ true) ⊎ (has (columns_of u) c ≡ true)
+    → has (union (columns_of t) (columns_of u)) c ≡ true
+into_union results t u h k c (inl m) = has_union _ _ c (has_below _ (columns_set results t h) c m) (inl m)
+into_union results t u h k c (inr m) = has_union _ _ c (has_below _ (columns_set results u k) c m) (inr m)
+
+-- facts that speak of no other columns than these, but that a column is equal to itself
+pub record AreAbout (C : ℕ → Type 0) (D : List ℕ → ℕ → Type 0) (E : ℕ → ℕ → Type 0) (cols : List ℕ) : Type 0 where
+  pub constants : (c : ℕ) → C c → has cols c ≡ true
+  pub determined : (s : List ℕ) (c : ℕ) → D s c → has cols c ≡ true
+  pub by : (s : List ℕ) (c d : ℕ) → D s c → has s d ≡ true → has cols d ≡ true
+  pub equal : (c d : ℕ) → E c d → (c ≡ d) ⊎ ((has cols c ≡ true) × (has cols d ≡ true))
+
+-- where linked columns are stated of these columns, so are those that chains link
+pub linked_about : (P : ℕ → ℕ → Type 0) (cols : List ℕ) → ((c d : ℕ) → P c d → (c ≡ d) ⊎ ((has cols c ≡ true) × (has cols d ≡ true)))
+    → (c d : ℕ) → IsLinked P c d → (c ≡ d) ⊎ ((has cols c ≡ true) × (has cols d ≡ true))
+linked_about P cols h c d (stated p) = h c d p
+linked_about P cols h c d itself = inl refl
+linked_about P cols h c d (turned l) = go (linked_about P cols h d c l)
+  where
+    go : (d ≡ c) ⊎ ((has cols d ≡ true) × (has cols c ≡ true)) → (c ≡ d) ⊎ ((has cols c ≡ true) × (has cols d ≡ true))
+    go (inl e) = inl (sym e)
+    go (inr k) = inr (k.1, k.0)
+linked_about P cols h c d (chained {d = e} l m) = go (linked_about P cols h c e l) (linked_about P cols h e d m)
+  where
+    go : (c ≡ e) ⊎ ((has cols c ≡ true) × (has cols e ≡ true)) → (e ≡ d) ⊎ ((has cols e ≡ true) × (has cols d ≡ true)) → (c ≡ d) ⊎ ((has cols c ≡ true) × (has cols d ≡ true))
+    go (inl i) (inl j) = inl (i ∙ j)
+    go (inl i) (inr k) = inr (subst (λ (b : ℕ). has cols b ≡ true) (sym i) k.0, k.1)
+    go (inr k) (inl j) = inr (k.0, subst (λ (b : ℕ). has cols b ≡ true) j k.1)
+    go (inr k) (inr m) = inr (k.0, m.1)
+
+-- what a predicate's equation of two sides gives, of a property that passes from `&&` to its sides
+pub from_conjunct : (R : Expr → Expr → Type 0) (Q : Expr → Type 0) (G : Type 0)
+    → ((s a t b : _) → Q (Pair' And s (more_of-Expr a end_of-Expr) t (more_of-Expr b end_of-Expr)) → Q a × Q b)
+    → ((s a t b : _) → R a b → Q (Pair' Eq s (more_of-Expr a end_of-Expr) t (more_of-Expr b end_of-Expr)) → G)
+    → (e : Expr) → SomeConjunct (Equates R) e → Q e → G
+from_conjunct R Q G split found (Literal v) h q = absurd h
+from_conjunct R Q G split found (Col c k) h q = absurd h
+from_conjunct R Q G split found (Neg' s a) h q = absurd h
+from_conjunct R Q G split found (Not' s a) h q = absurd h
+from_conjunct R Q G split found (Pair' And s (more_of-Expr a end_of-Expr) t (more_of-Expr b end_of-Expr)) (inl h) q = from_conjunct R Q G split found a h (split s a t b q).0
+from_conjunct R Q G split found (Pair' And s (more_of-Expr a end_of-Expr) t (more_of-Expr b end_of-Expr)) (inr h) q = from_conjunct R Q G split found b h (split s a t b q).1
+from_conjunct R Q G split found (Pair' Eq s (more_of-Expr a end_of-Expr) t (more_of-Expr b end_of-Expr)) h q = found s a t b h q
+from_conjunct R Q G split found (Pair' op s a t b) h q = absurd h
+
+-- a column of which one side is the column and the other a literal is a column of the sides
+literal_over : (cols : List ℕ) (c : ℕ) (a b : Expr) → IsColumnAndLiteral c a b → IsOver cols a × IsOver cols b → has cols c ≡ true
+literal_over cols c (Col d k) (Literal v) e h = subst (λ (i : ℕ). has cols i ≡ true) (sym e) h.0
+literal_over cols c (Literal v) (Col d k) e h = subst (λ (i : ℕ). has cols i ≡ true) (sym e) h.1
+literal_over cols c (Literal v) b e h = absurd e
+literal_over cols c (Col d k) b e h = absurd e
+literal_over cols c (Neg' s a) b e h = absurd e
+literal_over cols c (Not' s a) b e h = absurd e
+literal_over cols c (Pair' op s a t b) d e h = absurd e
+
+-- and so are columns that are the sides
+columns_over : (cols : List ℕ) (c d : ℕ) (a b : Expr) → AreColumns c d a b → IsOver cols a × IsOver cols b → (has cols c ≡ true) × (has cols d ≡ true)
+columns_over cols c d (Col i j) (Col k l) e h = (subst (λ (i : ℕ). has cols i ≡ true) (sym e.0) h.0, subst (λ (i : ℕ). has cols i ≡ true) (sym e.1) h.1)
+columns_over cols c d (Col i j) b e h = absurd e
+columns_over cols c d (Literal v) b e h = absurd e
+columns_over cols c d (Neg' s a) b e h = absurd e
+columns_over cols c d (Not' s a) b e h = absurd e
+columns_over cols c d (Pair' op s a t b) f e h = absurd e
+
+-- a predicate sets columns constant that it has
+pub constant_over : (cols : List ℕ) (e : Expr) (c : ℕ) → IsOver cols e → SetsConstant e c → has cols c ≡ true
+constant_over cols e c over h =
+    from_conjunct (IsColumnAndLiteral c) (IsOver cols) (has cols c ≡ true) (λ s a t b q. q) (λ s a t b r q. literal_over cols c a b r q) e h over
+
+-- and columns equal that it has
+pub equal_over : (cols : List ℕ) (e : Expr) (c d : ℕ) → IsOver cols e → SetsEqual e c d → (has cols c ≡ true) × (has cols d ≡ true)
+equal_over cols e c d over h =
+    from_conjunct (AreColumns c d) (IsOver cols) ((has cols c ≡ true) × (has cols d ≡ true)) (λ s a t b q. q) (λ s a t b r q. columns_over cols c d a b r q) e h over
+
+-- what a Ref names is a column of its
+pub ref_image : (result cols : List ℕ) (b c : ℕ) → ref_name result cols b ≡ Some c → has cols c ≡ true
+ref_image result cols b c h = go (has result b) h
+  where
+    go : (t : Bool) → (if t then slice_get cols (rank result b) else None) ≡ Some c → has cols c ≡ true
+    go true k = has_at cols (rank result b) c k
+    go false k = absurd (cc)
+
+-- and of a column of the shared result
+pub ref_source : (result cols : List ℕ) (b c : ℕ) → ref_name result cols b ≡ Some c → (has result b ≡ true) × (slice_get cols (rank result b) ≡ Some c)
+ref_source result cols b c h = go (has result b) h
+  where
+    go : (t : Bool) → (if t then slice_get cols (rank result b) else None) ≡ Some c → (t ≡ true) × (slice_get cols (rank result b) ≡ Some c)
+    go true k = (refl, k)
+    go false k = absurd (cc)
+
+-- what a Project names is a column of its
+pub item_image : (items : List Expr) (cols : List ℕ) (b c : ℕ) → item_name items cols b ≡ Some c → has cols c ≡ true
+item_image items cols b c h = go (position (is_column b) items) h
+  where
+    go : (o : Option ℕ) → option_and_then (slice_get cols) o ≡ Some c → has cols c ≡ true
+    go None k = absurd (cc)
+    go (Some i) k = has_at cols i c k
+
+-- what keeps its name is of the key
+pub key_source : (keys : List ℕ) (b c : ℕ) → key_name keys b ≡ Some c → (has keys b ≡ true) × (b ≡ c)
+key_source keys b c h = go (has keys b) h
+  where
+    go : (t : Bool) → (if t then Some b else None) ≡ Some c → (t ≡ true) × (b ≡ c)
+    go true k = (refl, cc)
+    go false k = absurd (cc)
+
+-- columns of aggregates are among the columns of a group
+pub aggregate_column : (args : GroupArgs) (c : ℕ) → IsGroup args → IsAggregate args c → has (group_columns args) c ≡ true
+aggregate_column args c group h =
+    let low : c < 128 = subst (λ (i : ℕ). i < 128) h.4 (All-contains (λ a. a.id < 128) args.aggs h.1 group.below (h.0, h.2, h.3)) in
+    has_union args.keys (map (λ a. a.id) args.aggs) c low (inr (among args.aggs (in_list args.aggs h.1 (h.0, h.2, h.3))))
+  where
+    among : (aggs : List Agg) → In h.1 aggs → has (map (λ a. a.id) aggs) c ≡ true
+    among [] m = absurd m
+    among (a ∷ aggs) (inl e) = or_left _ _ (to_test a.id c (ap (λ (g : Agg). g.id) (sym e) ∙ h.4))
+    among (a ∷ aggs) (inr m) = or_right _ _ (among aggs m)
+
+-- and so are those of the key
+pub key_column : (args : GroupArgs) (b c : ℕ) → IsGroup args → key_name args.keys b ≡ Some c → has (group_columns args) c ≡ true
+key_column args b c group h =
+    let k = key_source args.keys b c h in
+    let there : has args.keys c ≡ true = subst (λ (i : ℕ). has args.keys i ≡ true) k.1 k.0 in
+    has_union args.keys (map (λ a. a.id) args.aggs) c (has_below args.keys group.key_set c there) (inl there)
+
+module _ (cols : List ℕ) where
+  -- facts that are renamed speak of new columns
+  pub renamed_about : (name : ℕ → Option ℕ) (C : ℕ → Type 0) (D : List ℕ → ℕ → Type 0) (E : ℕ → ℕ → Type 0) → ((b c : ℕ) → name b ≡ Some c → has cols c ≡ true)
+      → AreAbout (Renamed name C) (DependencyRenamed name D) (IsLinked (BothRenamed name E)) cols
+  renamed_about name C D E image = record {
+    constants = λ c h. image h.0 c h.2;
+    determined = λ s c h. image h.1 c h.3;
+    by = λ s c d h k. let r = (h.4.just d).0 k in image r.0 d r.2;
+    equal = linked_about (BothRenamed name E) cols (λ c d h. inr (image h.0 c h.3, image h.1 d h.4));
+  }
+
+  nothing_about : AreAbout (λ c. ⊥) (λ s c. ⊥) (λ c d. c ≡ d) cols
+  nothing_about = record { constants = λ c h. absurd h; determined = λ s c h. absurd h; by = λ s c d h. absurd h; equal = λ c d h. inl h }
+
+-- the facts of a group speak of its columns
+group_about : (args : GroupArgs) → IsGroup args → (C : ℕ → Type 0) (D : List ℕ → ℕ → Type 0) (E : ℕ → ℕ → Type 0)
+    → AreAbout (λ c. Renamed (key_name args.keys) C c ⊎ ((args.keys ≡ []) × IsAggregate args c))
+    (λ s c. DependencyRenamed (key_name args.keys) D s c ⊎ ((args.keys ≢ []) × (s ≡ args.keys) × IsAggregate args c))
+    (IsLinked (BothRenamed (key_name args.keys) E)) (group_columns args)
+group_about args group C D E = record { constants = constants; determined = determined; by = by; equal = of_key.equal }
+  where
+    of_key : AreAbout (Renamed (key_name args.keys) C) (DependencyRenamed (key_name args.keys) D) (IsLinked (BothRenamed (key_name args.keys) E)) (group_columns args)
+    of_key = renamed_about (group_columns args) (key_name args.keys) C D E (λ b c h. key_column args b c group h)
+
+    constants : (c : ℕ) → Renamed (key_name args.keys) C c ⊎ ((args.keys ≡ []) × IsAggregate args c) → has (group_columns args) c ≡ true
+    constants c (inl h) = of_key.constants c h
+    constants c (inr h) = aggregate_column args c group h.1
+
+    determined : (s : List ℕ) (c : ℕ) → DependencyRenamed (key_name args.keys) D s c ⊎ ((args.keys ≢ []) × (s ≡ args.keys) × IsAggregate args c) → has (group_columns args) c ≡ true
+    determined s c (inl h) = of_key.determined s c h
+    determined s c (inr h) = aggregate_column args c group h.2
+
+    by : (s : List ℕ) (c d : ℕ) → DependencyRenamed (key_name args.keys) D s c ⊎ ((args.keys ≢ []) × (s ≡ args.keys) × IsAggregate args c) → has s d ≡ true → has (group_columns args) d ≡ true
+    by s c d (inl h) k = of_key.by s c d h k
+    by s c d (inr h) k =
+        let there : has args.keys d ≡ true = subst (λ (r : List ℕ). has r d ≡ true) h.1 k in
+        has_union args.keys (map (λ a. a.id) args.aggs) d (has_below args.keys group.key_set d there) (inl there)
+
+module _ (shared : List Facts) where
+  abbrev About : Expression → Type 0
+  About t = AreAbout (IsConstant shared t) (Determines shared t) (AreEqual shared t) (columns_of t)
+
+  filter_about : (e : Expr) (t : Expression) → IsOver (columns_of t) e → About t → About (one (Filter e) t)
+  filter_about e t over h = record {
+    constants = constants;
+    determined = h.determined;
+    by = h.by;
+    equal = linked_about (λ a b. AreEqual shared t a b ⊎ SetsEqual e a b) (columns_of t) equal;
+  }
+    where
+      constants : (c : ℕ) → IsConstant shared t c ⊎ SetsConstant e c → has (columns_of t) c ≡ true
+      constants c (inl k) = h.constants c k
+      constants c (inr k) = constant_over (columns_of t) e c over k
+
+      equal : (c d : ℕ) → AreEqual shared t c d ⊎ SetsEqual e c d → (c ≡ d) ⊎ ((has (columns_of t) c ≡ true) × (has (columns_of t) d ≡ true))
+      equal c d (inl k) = h.equal c d k
+      equal c d (inr k) = inr (equal_over (columns_of t) e c d over k)
+
+  project_about : (items : List Expr) (cols : List ℕ) (t : Expression) → About (one (Project items cols) t)
+  project_about items cols t = record {
+    constants = constants;
+    determined = plain.determined;
+    by = plain.by;
+    equal = linked_about (λ a b. BothRenamed (item_name items cols) (AreEqual shared t) a b ⊎ AreSameItem items cols a b) cols equal;
+  }
+    where
+      plain : AreAbout (Renamed (item_name items cols) (IsConstant shared t)) (DependencyRenamed (item_name items cols) (Determines shared t)) (IsLinked (BothRenamed (item_name items cols) (AreEqual shared t))) cols
+      plain = renamed_about cols (item_name items cols) (IsConstant shared t) (Determines shared t) (AreEqual shared t) (item_image items cols)
+
+      constants : (c : ℕ) → IsConstant shared (one (Project items cols) t) c → has cols c ≡ true
+      constants c (inl k) = plain.constants c k
+      constants c (inr k) = has_at cols k.0 c k.1
+
+      equal : (c d : ℕ) → BothRenamed (item_name items cols) (AreEqual shared t) c d ⊎ AreSameItem items cols c d → (c ≡ d) ⊎ ((has cols c ≡ true) × (has cols d ≡ true))
+      equal c d (inl k) = inr (item_image items cols k.0 c k.3, item_image items cols k.1 d k.4)
+      equal c d (inr k) = inr (has_at cols k.0 c k.3, has_at cols k.1 d k.4)
+
+  module _ (left right cols : List ℕ) (into : (c : ℕ) → (has left c ≡ true) ⊎ (has right c ≡ true) → has cols c ≡ true) (C K : ℕ → Type 0) (D L : List ℕ → ℕ → Type 0) (E F : ℕ → ℕ → Type 0)
+      (h : AreAbout C D E left) (k : AreAbout K L F right) where
+    sides_constants : (c : ℕ) → C c ⊎ K c → has cols c ≡ true
+    sides_constants c (inl m) = into c (inl (h.constants c m))
+    sides_constants c (inr m) = into c (inr (k.constants c m))
+
+    sides_determined : (s : List ℕ) (c : ℕ) → D s c ⊎ L s c → has cols c ≡ true
+    sides_determined s c (inl m) = into c (inl (h.determined s c m))
+    sides_determined s c (inr m) = into c (inr (k.determined s c m))
+
+    sides_by : (s : List ℕ) (c d : ℕ) → D s c ⊎ L s c → has s d ≡ true → has cols d ≡ true
+    sides_by s c d (inl m) n = into d (inl (h.by s c d m n))
+    sides_by s c d (inr m) n = into d (inr (k.by s c d m n))
+
+    sides_equal : (on : List (ℕ × ℕ)) → All (λ p. (has left p.0 ≡ true) × (has right p.1 ≡ true)) on → (c d : ℕ) → E c d ⊎ (F c d ⊎ Contains on (c, d))
+        → (c ≡ d) ⊎ ((has cols c ≡ true) × (has cols d ≡ true))
+    sides_equal on sides c d (inl m) = go (h.equal c d m)
+      where
+        go : (c ≡ d) ⊎ ((has left c ≡ true) × (has left d ≡ true)) → (c ≡ d) ⊎ ((has cols c ≡ true) × (has cols d ≡ true))
+        go (inl e) = inl e
+        go (inr n) = inr (into c (inl n.0), into d (inl n.1))
+    sides_equal on sides c d (inr (inl m)) = go (k.equal c d m)
+      where
+        go : (c ≡ d) ⊎ ((has right c ≡ true) × (has right d ≡ true)) → (c ≡ d) ⊎ ((has cols c ≡ true) × (has cols d ≡ true))
+        go (inl e) = inl e
+        go (inr n) = inr (into c (inr n.0), into d (inr n.1))
+    sides_equal on sides c d (inr (inr m)) =
+        let n = All-contains (λ p. (has left p.0 ≡ true) × (has right p.1 ≡ true)) on (c, d) sides m in inr (into c (inl n.0), into d (inr n.1))
+
+  -- the facts of an expression speak of its columns
+  pub known_about : (results : List (List ℕ)) (t : Expression) → IsFormed results t → About t
+  known_about results (leaf (Ref i cols)) h = renamed_about cols (ref_name (result_columns shared i) cols) _ _ _ (ref_image (result_columns shared i) cols)
+  known_about results (leaf op) h = nothing_about (columns_of (leaf op))
+  known_about results (one (Filter e) t) h = filter_about e t h.1 (known_about results t h.0)
+  known_about results (one (Project items cols) t) h = project_about items cols t
+  known_about results (one (Group args) t) h = group_about args h.1.0 (IsConstant shared t) (Determines shared t) (AreEqual shared t)
+  known_about results (one (Finish args) t) h = group_about args h.1 (IsConstant shared t) (Determines shared t) (AreEqual shared t)
+  known_about results (one (Partial args) t) h =
+      renamed_about (group_columns args) (key_name args.keys) (IsConstant shared t) (Determines shared t) (AreEqual shared t) (λ b c k. key_column args b c h.1.0 k)
+  known_about results (one (Process call) t) h = nothing_about call.cols
+  known_about results (one (Reduce call on presort) t) h = nothing_about call.cols
+  known_about results (one op t) h = known_about results t h.0
+  known_about results (two (Combine call on before beside) t u) h = nothing_about call.cols
+  known_about results (two (Join on) t u) h =
+      let left = known_about results t h.0 in
+      let right = known_about results u h.1 in
+      let into : (c : ℕ) → (has (columns_of t) c ≡ true) ⊎ (has (columns_of u) c ≡ true) → has (union (columns_of t) (columns_of u)) c ≡ true = into_union results t u h.0 h.1 in
+      record {
+        constants = sides_constants (columns_of t) (columns_of u) _ into _ _ _ _ _ _ left right;
+        determined = sides_determined (columns_of t) (columns_of u) _ into _ _ _ _ _ _ left right;
+        by = sides_by (columns_of t) (columns_of u) _ into _ _ _ _ _ _ left right;
+        equal = linked_about _ _ (sides_equal (columns_of t) (columns_of u) _ into _ _ _ _ _ _ left right on.items h.2.sides);
+      }
+  known_about results (two op t u) h = nothing_about (union (columns_of t) (columns_of u))

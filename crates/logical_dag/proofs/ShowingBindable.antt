@@ -1,0 +1,62 @@
+-- The script of the tests is one that binding can give.
+use Rattle.std.proofs.Common.{◌≡◌, ℕ, List, Option, take, [], ◌∷◌, ◌++◌, map, length, None, refl, ap, sym, ◌∙◌, subst, arith}
+use Rattle.std.specs.List.{flat_map, range_with_len}
+use Rattle.std.specs.Prelude.{slice_get, IfSome, IsSomeAnd, All}
+use Rattle.std.proofs.lemmas.List.Elements.{All-nil, All-cons}
+use Rattle.col_sets.specs.declared.dir.Dir.{Dir}
+use Rattle.col_sets.specs.Sets.{count, columns_where}
+use Rattle.logical_dag.specs.declared.dag.Dag.{Dag}
+use Rattle.logical_dag.specs.declared.dag.Output.{Output}
+use Rattle.logical_dag.specs.declared.dag.ScanDecl.{ScanDecl}
+use Rattle.logical_dag.specs.Tree.{Expression, tree_of, columns_of}
+use Rattle.logical_dag.specs.Rows.{order_of}
+use Rattle.logical_dag.specs.Formed.{IsOrderOver}
+use Rattle.logical_dag.specs.Bounds.{AreBounded}
+use Rattle.logical_dag.specs.Scripts.{shared_trees, output_trees, all_trees, scans_of, IsWritten, IsBindable}
+use Rattle.logical_dag.specs.Showing.{counted}
+use Rattle.logical_dag.proofs.ShowingFormed.{counted-formed}
+
+-- one scan and one output of two nodes and a Filter
+pub counted-bounded : AreBounded 1 [] (counted ∷ [])
+counted-bounded = record {
+  few_scans = omega arith;
+  few_shared = omega arith;
+  few_outputs = omega arith;
+  few_nodes = omega arith;
+  narrow = refl;
+}
+
+counted-written : (results : List (List ℕ)) → IsWritten results counted
+unfolding columns_where
+counted-written results = record { whole = tt; plain = refl; formed = counted-formed results; numbered = refl }
+
+-- a scan has as many columns as its schema
+abbrev HasSchema : List ScanDecl → ℕ × List ℕ → Type 0
+HasSchema scans q = IsSomeAnd (slice_get scans q.0) (λ scan. length scan.schema ≡ count q.1)
+
+-- the columns of an output's order are there
+abbrev IsOrdered : Output → Type 0
+IsOrdered o = IsOrderOver (columns_of (tree_of o.tree)) (order_of o.order)
+
+-- a script of one scan of four columns and one output without order, whose tree is that expression
+pub counted-bindable : (dag : Dag) (o : Output) (s : ScanDecl) → dag.shared ≡ [] → dag.outputs ≡ o ∷ [] → dag.scans ≡ s ∷ [] → tree_of o.tree ≡ counted → o.order ≡ None → length s.schema ≡ 4 → IsBindable dag
+counted-bindable dag o s no_shared one_output one_scan is order four = record {
+  shared = subst (λ (ts : List Expression). (i : ℕ) → IfSome (slice_get ts i) (IsWritten (take i (map columns_of ts)))) (sym none) (λ i. tt);
+  outputs = subst (λ (ts : List Expression). All (IsWritten (map columns_of ts)) (output_trees dag)) (sym none)
+      (subst (All (IsWritten [])) (sym only) (All-cons (IsWritten []) counted [] (counted-written []) (All-nil (IsWritten []))));
+  scans = ap (λ (ts : List Expression). map (λ s. s.0) (flat_map scans_of ts)) all ∙ sym (ap (λ (ss : List ScanDecl). range_with_len 0 (length ss)) one_scan);
+  schemas = subst (λ (ts : List Expression). All (HasSchema dag.scans) (flat_map scans_of ts)) (sym all)
+      (subst (λ (ss : List ScanDecl). All (HasSchema ss) ((0, 0 ∷ 1 ∷ 2 ∷ 3 ∷ []) ∷ [])) (sym one_scan)
+      (All-cons (HasSchema (s ∷ [])) (0, 0 ∷ 1 ∷ 2 ∷ 3 ∷ []) [] four (All-nil (HasSchema (s ∷ [])))));
+  orders = subst (All IsOrdered) (sym one_output)
+      (All-cons IsOrdered o [] (subst (λ (r : Option (List (ℕ × Dir))). IsOrderOver (columns_of (tree_of o.tree)) (order_of r)) (sym order) refl) (All-nil IsOrdered));
+}
+  where
+    none : shared_trees dag ≡ []
+    none = ap (map tree_of) no_shared
+
+    only : output_trees dag ≡ counted ∷ []
+    only = ap (map (λ (p : Output). tree_of p.tree)) one_output ∙ ap (λ (t : Expression). t ∷ []) is
+
+    all : all_trees dag ≡ counted ∷ []
+    all = ap (λ (ts : List Expression). ts ++ output_trees dag) none ∙ only

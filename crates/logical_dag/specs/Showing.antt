@@ -1,0 +1,51 @@
+-- What the operators of the tests tell: they show the rows that they are given, and take no schemas. Then two expressions of
+-- the tests.
+use Rattle.std.specs.Prelude.{ℕ, pos, false, List, [], ◌∷◌, None}
+use Rattle.scope_value.specs.declared.value.Value.{Value}
+use Rattle.scope_value.specs.declared.value.Value.TheVariants.{Int}
+use Rattle.scope_value.specs.declared.schema.ColType.TheVariants.{Long}
+use Rattle.scope_expr.specs.declared.op.PairOp.TheVariants.{And, Eq}
+use Rattle.scope_expr.specs.declared.agg.AggKind.TheVariants.{Count}
+use Rattle.scope_expr.specs.declared.expr.Expr.{Expr}
+use Rattle.scope_expr.specs.declared.expr.Expr.TheVariants.{Literal, Col, Neg, Pair}
+use Rattle.user_ops.specs.Told.{ToldProcessor, ToldReducer, ToldCombiner}
+use Rattle.logical_dag.specs.declared.args.GroupArgs.{GroupArgs}
+use Rattle.logical_dag.specs.declared.logic_op.LogicOp.TheVariants.{Scan, Filter, Group}
+use Rattle.logical_dag.specs.Tree.{Expression, leaf, one}
+
+-- the row itself
+abbrev pub row_shown : ToldProcessor
+row_shown = record { takes = λ input output args. false; processes = λ args row. row ∷ [] }
+
+-- the rows in the order in which they are given
+abbrev pub group_shown : ToldReducer
+group_shown = record { takes = λ input output args. false; reduces = λ args rows. rows }
+
+-- the left rows, or the right ones where there are no left ones
+abbrev pub left_or_right : List (List Value) → List (List Value) → List (List Value)
+left_or_right [] right = right
+left_or_right (r ∷ left) right = r ∷ left
+
+abbrev pub side_shown : ToldCombiner
+side_shown = record { takes = λ left right output args. false; combines = λ args left right. left_or_right left right }
+
+-- a column of numbers
+abbrev pub number_column : ℕ → Expr
+number_column c = Col c Long
+
+-- `0 == 1 && 1 == 2 && 3 == 7 && 0 == -5`, grouped to the left
+abbrev pub linking : Expr
+linking =
+    Pair And (Pair And (Pair And (Pair Eq (number_column 0) (number_column 1)) (Pair Eq (number_column 1) (number_column 2))) (Pair Eq (number_column 3) (Literal (Int (pos 7)))))
+    (Pair Eq (number_column 0) (Neg (Literal (Int (pos 5)))))
+
+-- the rows of columns 0 to 3 of which it holds
+abbrev pub linked : Expression
+linked = one (Filter linking) (leaf (Scan 0 (0 ∷ 1 ∷ 2 ∷ 3 ∷ [])))
+
+-- COUNT(*) of them by column 1, as column 4
+abbrev pub counting : GroupArgs
+counting = record { written = None; keys = 1 ∷ []; aggs = record { kind = Count; arg = None; id = 4 } ∷ [] }
+
+abbrev pub counted : Expression
+counted = one (Group counting) linked

@@ -1,0 +1,183 @@
+// What is known of the rows of an expression.
+ghost use Rattle.std.specs.Prelude.{◌≡◌, ◌<◌, All, Some};
+ghost use Rattle.col_sets.specs.Sets.{IsColumnSet};
+ghost use Rattle.logical_dag.specs.Tree as tree;
+ghost use Rattle.logical_dag.specs.Tree.{leaf, tree_of};
+ghost use Rattle.logical_dag.specs.Formed.{IsFormed, IsOver, IsGroup, IsOneFormed, IsTwoFormed};
+ghost use Rattle.logical_dag.specs.Facts.{ref_name, key_name, AreFactsOf};
+ghost use Rattle.logical_dag.specs.Known.{IsLentSet, name_of, IsNaming, IsOwn, AreRenamed, AreProjected, AreGrouped, AreJoined, AreApart, AreFactsAbove, AreFactsOver, IsJoinApart};
+ghost use Rattle.logical_dag.specs.Laws.{lent_columns, HoldOf, DoFactsHold};
+
+use crate::args::GroupArgs;
+use crate::carried::{carried, with_equalities, with_same_dependencies};
+use crate::columns::group_columns;
+use crate::logic_op::LogicOp;
+use crate::logical::Logical;
+use crate::naming::{Names, item_names, key_names, ref_names};
+use crate::stated::{
+    with_conjuncts, with_constant_aggregates, with_keyed_aggregates, with_literals, with_pairs,
+    with_same_items,
+};
+use col_sets::{ColId, ColSet};
+use fd_closure::Facts;
+use scope_expr::Expr;
+
+// A set has its columns in ascending order, below 128.
+fn is_ascending(set: ColSet)
+    ensures { IsColumnSet set }
+{
+    let _ = set.count();
+}
+
+// The facts under new names, of rows over these columns.
+fn renamed(from: &Facts, names: &Names, cols: ColSet) -> Facts
+    requires { IsNaming (name_of names.now) }
+    ensures { AreRenamed from.now (name_of names.now) cols result }
+{
+    carried(from, names, Facts::of_columns(cols))
+}
+
+// The facts of a shared result in a Ref.
+fn referred(lent: &Facts, cols: ColSet) -> Facts
+    requires { IsColumnSet cols }
+    ensures set { IsColumnSet lent.now.columns }
+    ensures value { AreRenamed lent.now (ref_name lent.now.columns cols) cols result }
+{
+    is_ascending(lent.columns);
+    let names = ref_names(lent.columns, cols);
+    renamed(lent, &names, cols)
+}
+
+// The facts above a projection.
+fn projected(items: &[Expr], cols: ColSet, below: &Facts) -> Facts
+    requires set { IsColumnSet cols }
+    requires over { All (IsOver below.now.columns) items.now }
+    ensures { AreProjected items.now cols below.now result }
+{
+    is_ascending(below.columns);
+    let names = item_names(items, cols);
+    let plain = renamed(below, &names, cols);
+    with_same_items(items, cols, with_literals(items, cols, plain))
+}
+
+/// The facts of the key above a grouping.
+pub(crate) fn keyed(args: &GroupArgs, below: &Facts) -> Facts
+    requires { IsGroup args.now }
+    ensures { AreRenamed below.now (key_name args.now.keys) (tree.group_columns args.now) result }
+{
+    let names = key_names(args.keys);
+    renamed(below, &names, group_columns(args))
+}
+
+// The facts above a grouping.
+fn grouped(args: &GroupArgs, below: &Facts) -> Facts
+    requires { IsGroup args.now }
+    ensures { AreGrouped args.now below.now result }
+{
+    let key = keyed(args, below);
+    if args.keys.count() == 0 {
+        with_constant_aggregates(args.aggs.as_slice(), key)
+    } else {
+        with_keyed_aggregates(args.keys, args.aggs.as_slice(), key)
+    }
+}
+
+/// The facts of a join, of those of both sides.
+pub(crate) fn joined(on: &[(ColId, ColId)], left: Facts, right: &Facts) -> Facts
+    requires own { IsOwn left }
+    requires apart { AreApart left right.now }
+    requires below { All (λ p. (p.0 < 128) × (p.1 < 128)) on.now }
+    ensures { AreJoined on.now left right.now result }
+{
+    is_ascending(right.columns);
+    let names = key_names(right.columns);
+    let beside = Facts {
+        columns: left.columns.union(right.columns),
+        constants: left.constants.union(right.constants),
+        ..left
+    };
+    let depends = with_same_dependencies(right, beside);
+    with_pairs(on, with_equalities(right, &names, depends))
+}
+
+// The facts of a node without children.
+fn leaf_facts(op: &LogicOp, shared: &[Facts]) -> Facts
+    requires { IsFormed (lent_columns shared.now) (leaf op.now) }
+    ensures value { AreFactsOf shared.now (leaf op.now) result }
+    ensures set { IsLentSet shared.now (leaf op.now) }
+{
+    match op {
+        LogicOp::Ref {
+            shared: number,
+            cols,
+        } => match shared.get(*number as usize) {
+            Some(lent) => referred(lent, *cols),
+            None => Facts::of_columns(*cols),
+        },
+        LogicOp::Scan { cols, .. } => Facts::of_columns(*cols),
+        _ => Facts::of_columns(ColSet::empty()),
+    }
+}
+
+// The facts of a node over an expression with the facts below.
+fn facts_above(op: &LogicOp, below: Facts) -> Facts
+    requires formed { IsOneFormed below.columns op.now }
+    requires own { IsOwn below }
+    ensures { AreFactsAbove op.now below result }
+{
+    match op {
+        LogicOp::Filter(e) => with_conjuncts(e, below),
+        LogicOp::Project { items, cols } => projected(items.as_slice(), *cols, &below),
+        LogicOp::Group(args) => grouped(args, &below),
+        LogicOp::Finish(args) => grouped(args, &below),
+        LogicOp::Partial(args) => keyed(args, &below),
+        LogicOp::Process(call) => Facts::of_columns(call.cols),
+        LogicOp::Reduce { call, .. } => Facts::of_columns(call.cols),
+        _ => below,
+    }
+}
+
+// The facts of a node over two expressions with these facts.
+fn facts_over(op: &LogicOp, left: Facts, right: &Facts) -> Facts
+    requires formed { IsTwoFormed left.columns right.now.columns op.now }
+    requires own { IsOwn left }
+    requires apart { IsJoinApart op.now left right.now }
+    ensures { AreFactsOver op.now left right.now result }
+{
+    match op {
+        LogicOp::Join { on } => {
+            is_ascending(left.columns);
+            is_ascending(right.columns);
+            joined(on.as_slice(), left, right)
+        }
+        LogicOp::Combine { call, .. } => Facts::of_columns(call.cols),
+        _ => Facts::of_columns(left.columns.union(right.columns)),
+    }
+}
+
+// The same as `facts_of`; what the facts hold of follows from it.
+fn known_of(tree: &Logical, shared: &[Facts]) -> Facts
+    requires { IsFormed (lent_columns shared.now) (tree_of tree.now) }
+    ensures value { AreFactsOf shared.now (tree_of tree.now) result }
+    ensures set { IsLentSet shared.now (tree_of tree.now) }
+{
+    match tree.kids.as_slice() {
+        [] => leaf_facts(&tree.op, shared),
+        [below] => facts_above(&tree.op, known_of(below, shared)),
+        [left, right, ..] => facts_over(&tree.op, known_of(left, shared), &known_of(right, shared)),
+    }
+}
+
+/// The facts of an expression, where `shared` has those of each shared result that it refers to, by number.
+pub fn facts_of(tree: &Logical, shared: &[Facts]) -> Facts
+    requires { IsFormed (lent_columns shared.now) (tree_of tree.now) }
+    ensures value { AreFactsOf shared.now (tree_of tree.now) result }
+    ensures hold { HoldOf shared.now (tree_of tree.now) result }
+{
+    known_of(tree, shared)
+}
+
+/// The facts of an expression hold of each bag that stands for it, where those that are lent hold of theirs.
+pub fn facts_law()
+    ensures { DoFactsHold }
+{}

@@ -1,0 +1,47 @@
+//! Logical expressions over bags of rows, and what each of them means.
+//!
+//! An expression is a tree of operators over scans of streams and over results that several consumers share. What it
+//! means is said of bags alone: which bags stand for it (`specs/Meaning.antt`). Nothing here knows of partitions, hashing
+//! or the order in which rows come, so that rewritings, kernels and plans can all be held against it.
+#![tactic(auto)]
+
+mod agg;
+mod aggregate;
+mod args;
+mod block_facts;
+mod block_pairs;
+mod calls;
+mod carried;
+mod columns;
+mod compare;
+mod dag;
+mod exact_sum;
+mod finding;
+mod grouping;
+mod joins;
+mod kernels;
+mod keyed;
+mod known;
+mod known_at;
+mod laws;
+mod logic_op;
+mod logical;
+mod naming;
+mod orders;
+mod place;
+mod plain;
+mod stated;
+#[cfg(test)]
+mod tests;
+
+pub use agg::Agg;
+pub use args::{CallArgs, GroupArgs, TopArgs};
+pub use columns::columns_of;
+pub use dag::{Dag, Output, ScanDecl};
+pub use known::{facts_law, facts_of};
+pub use known_at::facts_at;
+pub use laws::{bag_law, replacement_law, split_law};
+pub use logic_op::LogicOp;
+pub use logical::Logical;
+pub use place::{Place, PlacePart};
+pub use plain::plain_bag;
