@@ -17,7 +17,7 @@ use std::process::Abort;
 use std::test::Fail;
 use user_ops::{OpSet, Tells};
 
-// The rows that the expression gives over these scans.
+// The rows that the expression gives over these scans, which stand for its shared results too.
 fn rows_from(
     alloc: Global,
     ops: &OpSet,
@@ -30,7 +30,7 @@ fn rows_from(
     for scan in scans {
         bags.push(rows_of(alloc, scan)?)?;
     }
-    plain_bag(alloc, tree, ops, bags.as_slice(), &[])
+    plain_bag(alloc, tree, ops, bags.as_slice(), bags.as_slice())
 }
 
 // The rows are those of the table.
@@ -73,6 +73,15 @@ fn check(
     let ops = OpSet::new(alloc);
     let rows = plain_rows(alloc, &ops, tree, scans)?;
     check_rows(rt, alloc, rows, wanted)
+}
+
+// The rows of the second shared result, and no rows of one that isn't there.
+#[test]
+fn refs_give_the_shared_rows(rt: HostRuntime) -> Result<(), Fail> {
+    let tree = trees::referred(rt.alloc());
+    check(&rt, rt.alloc(), &tree, &["1", "a,1|_,2"], "a,1|_,2")?;
+    check(&rt, rt.alloc(), &tree, &["1"], "")?;
+    Ok(())
 }
 
 // Null is not above 1.
@@ -118,13 +127,13 @@ fn groups_have_each_key_once(rt: HostRuntime) -> Result<(), Fail> {
 fn groups_without_keys_give_one_row(rt: HostRuntime) -> Result<(), Fail> {
     let tree = trees::without_keys(rt.alloc())?;
     for (rows, wanted) in [
-        ("", "0,0,0,_,_,_"),
-        ("_|_", "2,0,0,_,_,_"),
-        ("3|_|-5|4", "4,3,2,2,-5,4"),
-        ("9223372036854775807|1", "2,2,2,_,1,9223372036854775807"),
+        ("", "0,0,0,_,_,_,0"),
+        ("_|_", "2,0,0,_,_,_,0"),
+        ("3|_|-5|4", "4,3,2,2,-5,4,0"),
+        ("9223372036854775807|1", "2,2,2,_,1,9223372036854775807,0"),
         (
             "9223372036854775807|1|-1",
-            "3,3,2,9223372036854775807,-1,9223372036854775807",
+            "3,3,2,9223372036854775807,-1,9223372036854775807,0",
         ),
     ] {
         check(&rt, rt.alloc(), &tree, &[rows], wanted)?;

@@ -11,9 +11,22 @@ use crate::{Agg, CallArgs, Dag, GroupArgs, LogicOp, Logical, Output, ScanDecl, T
 use arrayvec::ArrayVec;
 use col_sets::{ColId, ColSet, Dir, KeyCols, KeyOrders};
 use scope_expr::{AggKind, Expr, PairOp};
-use scope_value::{Cell, ColType, Column, Schema};
+use scope_value::{Cell, ColType, Column, Schema, Value};
 use sqlite_items::{Boxed, Items};
 use std::alloc::{AllocError, Global};
+
+/// The second shared result, as columns 0 and 1.
+pub fn referred(alloc: Global) -> Logical
+    ensures { CallsNone (tree_of result) }
+{
+    Logical {
+        op: LogicOp::Ref {
+            shared: 1,
+            cols: set_of(&[0, 1]),
+        },
+        kids: Items::new(alloc),
+    }
+}
 
 /// Rows of column 0 that are above 1 in it.
 pub fn above_one(alloc: Global) -> Result<Logical, AllocError>
@@ -106,7 +119,7 @@ pub fn finished(alloc: Global) -> Result<Logical, AllocError>
     over(alloc, LogicOp::Finish(args), scan(alloc, 0, &[0, 2, 3, 4]))
 }
 
-// All aggregates of column 0, without keys: COUNT(*), COUNT, COUNTIF of `0 < c`, SUM, MIN and MAX.
+// All aggregates of column 0, without keys: COUNT(*), COUNT, COUNTIF of `0 < c`, SUM, MIN and MAX, and COUNTIF of null.
 fn all_aggs(alloc: Global) -> Result<GroupArgs, AllocError> {
     let mut aggs = Items::new(alloc);
     let positive = pair(alloc, PairOp::Lt, number(0), column(0))?;
@@ -116,6 +129,12 @@ fn all_aggs(alloc: Global) -> Result<GroupArgs, AllocError> {
     add_agg(&mut aggs, AggKind::Sum, Some(column(0)), 4)?;
     add_agg(&mut aggs, AggKind::Min, Some(column(0)), 5)?;
     add_agg(&mut aggs, AggKind::Max, Some(column(0)), 6)?;
+    add_agg(
+        &mut aggs,
+        AggKind::CountIf,
+        Some(Expr::Literal(Value::Null)),
+        7,
+    )?;
     Ok(GroupArgs {
         written: None,
         keys: set_of(&[]),
