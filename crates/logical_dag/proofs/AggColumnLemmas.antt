@@ -3,10 +3,6 @@ use Rattle.std.proofs.Common.{◌≡◌, ℕ, Bool, true, false, ◌||◌, List,
 use Rattle.col_sets.specs.Sets.{has, columns_where, with_column, union}
 use Rattle.col_sets.specs.Columns.{columns_same, has_where}
 
-or_false : (b : Bool) → (b || false) ≡ b
-or_false true = refl
-or_false false = refl
-
 -- a column is in a list with one more at the end where it is that one or in the list
 has-more : (xs : List ℕ) (c d : ℕ) → (nat_eq c d || has xs d) ≡ has (xs ++ c ∷ []) d
 has-more [] c d = refl

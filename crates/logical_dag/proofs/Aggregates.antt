@@ -41,10 +41,6 @@ count-cons p x xs = sum_by-cons (λ y. cond {A = ℕ} (p y) 1 0) x xs
 pub count-append : {X : Type 0} (p : X → Bool) (xs ys : List X) → count_by p (xs ++ ys) ≡ count_by p xs + count_by p ys
 count-append p xs ys = sum_by-append (λ x. cond {A = ℕ} (p x) 1 0) xs ys
 
--- a count of one value more, as at a step of a loop
-pub count-push : {X : Type 0} (p : X → Bool) (xs : List X) (x : X) → count_by p (xs ++ x ∷ []) ≡ count_by p xs + cond {A = ℕ} (p x) 1 0
-count-push p xs x = let e = count-append p xs (x ∷ []) in let f = count-cons p x [] in omega arith
-
 -- a count does not see the order
 pub count_permuted : {X : Type 0} (p : X → Bool) (xs ys : List X) → IsPermutation xs ys → count_by p xs ≡ count_by p ys
 count_permuted p xs ys h = sym (sum_by-IsPermutation (λ x. cond {A = ℕ} (p x) 1 0) xs ys h)

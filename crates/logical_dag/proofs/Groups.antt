@@ -12,7 +12,7 @@ use Rattle.logical_dag.specs.declared.agg.Agg.{Agg}
 use Rattle.logical_dag.specs.declared.args.GroupArgs.{GroupArgs}
 use Rattle.logical_dag.specs.declared.args.CallArgs.{CallArgs}
 use Rattle.logical_dag.specs.declared.args.TopArgs.{TopArgs}
-use Rattle.logical_dag.specs.Rows.{Row, Bag, agree_on, merged, joined, with_key, keys_among, in_order, first_rows, argument, partial_value, whole_value, finished_value, fitted, group_row, rows_of_keys, group_keys, grouped, partial_rows, finished, order_of, reduced, left_columns, right_columns, keys_of_both, combined}
+use Rattle.logical_dag.specs.Rows.{Row, Bag, agree_on, merged, joined, with_key, keys_among, in_order, first_rows, argument, partial_value, whole_value, finished_value, fitted, group_row, rows_of_keys, group_keys, grouped, finished, order_of, reduced, left_columns, right_columns, keys_of_both, combined}
 use Rattle.logical_dag.proofs.Aggregates.{exact_permuted, together_permuted}
 use Rattle.logical_dag.proofs.Bags.{same_permuted, filter_permuted, flat_map_permuted, flat_map_each, flat_map_same, map_each}
 use Rattle.logical_dag.proofs.Distinct.{distinct_permuted}
@@ -65,9 +65,6 @@ rows_of_keys_permuted args cols value_of sees keys others A B h k =
 
 pub grouped_permuted : (args : GroupArgs) (cols : List ℕ) (A B : Bag) → IsPermutation A B → IsPermutation (grouped args cols A) (grouped args cols B)
 grouped_permuted args cols A B h = rows_of_keys_permuted args cols (whole_value cols) (whole_value_permuted cols) _ _ A B (group_keys_permuted cols args.keys A B h) h
-
-pub partial_rows_permuted : (args : GroupArgs) (cols : List ℕ) (A B : Bag) → IsPermutation A B → IsPermutation (partial_rows args cols A) (partial_rows args cols B)
-partial_rows_permuted args cols A B h = rows_of_keys_permuted args cols (partial_value cols) (partial_value_permuted cols) _ _ A B (keys_among_permuted cols args.keys A B h) h
 
 pub finished_permuted : (args : GroupArgs) (cols : List ℕ) (A B : Bag) → IsPermutation A B → IsPermutation (finished args cols A) (finished args cols B)
 finished_permuted args cols A B h = rows_of_keys_permuted args cols (finished_value cols) (finished_value_permuted cols) _ _ A B (group_keys_permuted cols args.keys A B h) h

@@ -7,12 +7,10 @@ pub mod Blocks
 pub mod Carrying
 pub mod Classes
 pub mod Distinct
-pub mod DistinctLemmas
 pub mod FirstFacts
 pub mod Firsts
 pub mod Gathering
 pub mod GroupRows
-pub mod GroupingLemmas
 pub mod Groups
 pub mod JoinFacts
 pub mod KnownColumns
@@ -30,14 +28,10 @@ pub mod PairFacts
 pub mod PartFacts
 pub mod Parts
 pub mod Placed
-pub mod PlainLemmas
-pub mod RangeLemmas
 pub mod RowValues
 pub mod Shapes
 pub mod SharedFacts
 pub mod ShowingBindable
-pub mod ShowingFits
 pub mod ShowingFormed
 pub mod Split
 pub mod Stating
-pub mod SumLemmas

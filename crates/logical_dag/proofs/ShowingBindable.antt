@@ -1,5 +1,5 @@
 -- The script of the tests is one that binding can give.
-use Rattle.std.proofs.Common.{◌≡◌, ℕ, List, Option, take, [], ◌∷◌, ◌++◌, map, length, None, refl, ap, sym, ◌∙◌, subst, arith}
+use Rattle.std.proofs.Common.{◌≡◌, ℕ, List, Option, take, [], ◌∷◌, ◌++◌, map, length, None, refl, ap, sym, ◌∙◌, subst}
 use Rattle.std.specs.List.{flat_map, range_with_len}
 use Rattle.std.specs.Prelude.{slice_get, IfSome, IsSomeAnd, All}
 use Rattle.std.proofs.lemmas.List.Elements.{All-nil, All-cons}
@@ -11,20 +11,9 @@ use Rattle.logical_dag.specs.declared.dag.ScanDecl.{ScanDecl}
 use Rattle.logical_dag.specs.Tree.{Expression, tree_of, columns_of}
 use Rattle.logical_dag.specs.Rows.{order_of}
 use Rattle.logical_dag.specs.Formed.{IsOrderOver}
-use Rattle.logical_dag.specs.Bounds.{AreBounded}
 use Rattle.logical_dag.specs.Scripts.{shared_trees, output_trees, all_trees, scans_of, IsWritten, IsBindable}
 use Rattle.logical_dag.specs.Showing.{counted}
 use Rattle.logical_dag.proofs.ShowingFormed.{counted-formed}
-
--- one scan and one output of two nodes and a Filter
-pub counted-bounded : AreBounded 1 [] (counted ∷ [])
-counted-bounded = record {
-  few_scans = omega arith;
-  few_shared = omega arith;
-  few_outputs = omega arith;
-  few_nodes = omega arith;
-  narrow = refl;
-}
 
 counted-written : (results : List (List ℕ)) → IsWritten results counted
 unfolding columns_where

@@ -9,10 +9,7 @@ pub mod Known
 pub mod Laws
 pub mod Meaning
 pub mod Places
-pub mod Plain
 pub mod Rows
 pub mod Scripts
 pub mod Showing
-pub mod Steps
-pub mod Sums
 pub mod Tree

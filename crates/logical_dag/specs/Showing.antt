@@ -1,33 +1,14 @@
--- What the operators of the tests tell: they show the rows that they are given, and take no schemas. Then two expressions of
--- the tests.
-use Rattle.std.specs.Prelude.{ℕ, pos, false, List, [], ◌∷◌, None}
-use Rattle.scope_value.specs.declared.value.Value.{Value}
+-- Two expressions of the tests.
+use Rattle.std.specs.Prelude.{ℕ, pos, [], ◌∷◌, None}
 use Rattle.scope_value.specs.declared.value.Value.TheVariants.{Int}
 use Rattle.scope_value.specs.declared.schema.ColType.TheVariants.{Long}
 use Rattle.scope_expr.specs.declared.op.PairOp.TheVariants.{And, Eq}
 use Rattle.scope_expr.specs.declared.agg.AggKind.TheVariants.{Count}
 use Rattle.scope_expr.specs.declared.expr.Expr.{Expr}
 use Rattle.scope_expr.specs.declared.expr.Expr.TheVariants.{Literal, Col, Neg, Pair}
-use Rattle.user_ops.specs.Told.{ToldProcessor, ToldReducer, ToldCombiner}
 use Rattle.logical_dag.specs.declared.args.GroupArgs.{GroupArgs}
 use Rattle.logical_dag.specs.declared.logic_op.LogicOp.TheVariants.{Scan, Filter, Group}
 use Rattle.logical_dag.specs.Tree.{Expression, leaf, one}
-
--- the row itself
-abbrev pub row_shown : ToldProcessor
-row_shown = record { takes = λ input output args. false; processes = λ args row. row ∷ [] }
-
--- the rows in the order in which they are given
-abbrev pub group_shown : ToldReducer
-group_shown = record { takes = λ input output args. false; reduces = λ args rows. rows }
-
--- the left rows, or the right ones where there are no left ones
-abbrev pub left_or_right : List (List Value) → List (List Value) → List (List Value)
-left_or_right [] right = right
-left_or_right (r ∷ left) right = r ∷ left
-
-abbrev pub side_shown : ToldCombiner
-side_shown = record { takes = λ left right output args. false; combines = λ args left right. left_or_right left right }
 
 -- a column of numbers
 abbrev pub number_column : ℕ → Expr

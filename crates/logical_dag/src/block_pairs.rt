@@ -1,5 +1,5 @@
 // The pairs of a join block, of which those count whose columns are both there.
-ghost use Rattle.std.specs.Prelude.{◌≡◌, ◌⊎◌, ℕ, true, [], ◌∷◌};
+ghost use Rattle.std.specs.Prelude.{◌≡◌, ◌⊎◌, true, [], ◌∷◌};
 ghost use Rattle.col_sets.specs.Sets.{IsColumnSet};
 ghost use Rattle.fd_closure.specs.Known.{equal_of};
 ghost use Rattle.logical_dag.specs.Tree.{tree_of};

@@ -1,5 +1,5 @@
 // Facts under new names: what is known of rows that are made of others.
-ghost use Rattle.std.specs.Prelude.{◌≡◌, ◌<◌, ◌⊎◌, ◌↔◌, ℕ, List, true, false, Some, MatchOption};
+ghost use Rattle.std.specs.Prelude.{◌≡◌, ◌<◌, ◌⊎◌, ℕ, List, true, false, Some, MatchOption};
 ghost use Rattle.col_sets.specs.Sets.{has};
 ghost use Rattle.fd_closure.specs.Known.{equal_of};
 ghost use Rattle.logical_dag.specs.Facts.{IsRenamedSet};

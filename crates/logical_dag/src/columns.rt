@@ -1,5 +1,5 @@
-// The columns of a set, one by one, and those of an expression's rows.
-ghost use Rattle.std.specs.Prelude.{◌≡◌, map, IfOk};
+// The columns of an expression's rows.
+ghost use Rattle.std.specs.Prelude.{◌≡◌, map};
 ghost use Rattle.col_sets.specs.Sets.{columns_where, has};
 ghost use Rattle.logical_dag.specs.Tree.{tree_of};
 ghost use Rattle.logical_dag.specs.Tree as spec;
@@ -8,21 +8,7 @@ use crate::agg::Agg;
 use crate::args::GroupArgs;
 use crate::logic_op::LogicOp;
 use crate::logical::Logical;
-use col_sets::{ColId, ColSet};
-use std::alloc::{AllocError, Global};
-
-/// The columns of a set, ascending.
-pub(crate) fn columns_in(alloc: Global, set: ColSet) -> Result<Vec<ColId>, AllocError>
-    ensures { IfOk result (λ columns. columns.items ≡ set) }
-{
-    let mut columns = Vec::with_capacity(alloc, set.count() as usize)?;
-    for c in 0..128 {
-        if set.has(c) {
-            columns.push(c)?;
-        }
-    }
-    Ok(columns)
-}
+use col_sets::ColSet;
 
 /// The columns of the rows of an expression. A node with another number of children than its kind has columns all the
 /// same, those that the definition says.
@@ -73,7 +59,7 @@ fn two_columns(op: &LogicOp, below: ColSet, beside: ColSet) -> ColSet
 }
 
 /// The columns of a grouped row: the key's and those of the aggregates.
-pub(crate) fn group_columns(args: &GroupArgs) -> ColSet
+pub fn group_columns(args: &GroupArgs) -> ColSet
     ensures { result ≡ spec.group_columns args.now }
 {
     args.keys.union(agg_columns(args.aggs.as_slice()))

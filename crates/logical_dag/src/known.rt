@@ -1,5 +1,5 @@
 // What is known of the rows of an expression.
-ghost use Rattle.std.specs.Prelude.{◌≡◌, ◌<◌, All, Some};
+ghost use Rattle.std.specs.Prelude.{◌<◌, All, Some};
 ghost use Rattle.col_sets.specs.Sets.{IsColumnSet};
 ghost use Rattle.logical_dag.specs.Tree as tree;
 ghost use Rattle.logical_dag.specs.Tree.{leaf, tree_of};

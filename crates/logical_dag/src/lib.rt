@@ -6,37 +6,27 @@
 #![tactic(auto)]
 
 mod agg;
-mod aggregate;
 mod args;
 mod block_facts;
 mod block_pairs;
-mod calls;
 mod carried;
 mod columns;
-mod compare;
 mod dag;
-mod exact_sum;
 mod finding;
-mod grouping;
-mod joins;
-mod kernels;
-mod keyed;
 mod known;
 mod known_at;
 mod laws;
 mod logic_op;
 mod logical;
 mod naming;
-mod orders;
 mod place;
-mod plain;
 mod stated;
 #[cfg(test)]
 mod tests;
 
 pub use agg::Agg;
 pub use args::{CallArgs, GroupArgs, TopArgs};
-pub use columns::columns_of;
+pub use columns::{columns_of, group_columns};
 pub use dag::{Dag, Output, ScanDecl};
 pub use known::{facts_law, facts_of};
 pub use known_at::facts_at;
@@ -44,4 +34,3 @@ pub use laws::{bag_law, replacement_law, split_law};
 pub use logic_op::LogicOp;
 pub use logical::Logical;
 pub use place::{Place, PlacePart};
-pub use plain::plain_bag;

@@ -1,5 +1,5 @@
 // The facts that a node itself states: of its predicate, its items, its aggregates, or its pairs.
-ghost use Rattle.std.specs.Prelude.{◌≡◌, ◌<◌, ◌⊎◌, ℕ, List, true, false, Some, All, Any, Contains, IsSomeAnd, MatchOption, slice_get, nat_eq};
+ghost use Rattle.std.specs.Prelude.{◌≡◌, ◌<◌, ◌⊎◌, ℕ, true, false, Some, All, Any, Contains, IsSomeAnd, MatchOption, slice_get, nat_eq};
 ghost use Rattle.col_sets.specs.Sets.{has, IsColumnSet};
 ghost use Rattle.fd_closure.specs.Known.{equal_of};
 ghost use Rattle.logical_dag.specs.Facts.{IsColumnAndLiteral, AreColumns, SetsConstant, SetsEqual, is_column, is_literal, AreSameItem};

@@ -1,6 +1,0 @@
-use Rattle.std.proofs.Common.{◌≡◌, take, map}
-use Rattle.logical_dag.specs.Rows.{argument}
-use Rattle.logical_dag.proofs.aggregate.arguments.Given as goal
-
-abbrev pub invariant-loop-row : goal.invariant-loop-row
-invariant-loop-row l = l.values.items ≡ map (argument l.arg l.cols) (take l.row-index l.rows)

@@ -1,6 +1,0 @@
-use Rattle.std.proofs.Common.{◌≡◌, filter, take}
-use Rattle.scope_expr.specs.Value.{holds}
-use Rattle.logical_dag.proofs.kernels.filtered_rows.Given as goal
-
-abbrev pub invariant-loop-row : goal.invariant-loop-row
-invariant-loop-row l = l.kept.items ≡ filter (holds l.e l.cols) (take l.row-index l.rows)

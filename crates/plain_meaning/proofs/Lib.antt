@@ -1,0 +1,6 @@
+pub mod DistinctLemmas
+pub mod GroupingLemmas
+pub mod PlainLemmas
+pub mod RangeLemmas
+pub mod ShowingFits
+pub mod SumLemmas

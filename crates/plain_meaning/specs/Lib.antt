@@ -1,0 +1,4 @@
+pub mod Plain
+pub mod Showing
+pub mod Steps
+pub mod Sums

@@ -1,0 +1,21 @@
+//! The plain program of what expressions mean.
+//!
+//! [`plain_bag`] computes a bag that stands for an expression, each kind by going through the whole lists below it. It is
+//! slow, and short enough to read beside the definition in `logical_dag`, whose worked rows are this crate's tests.
+#![tactic(auto)]
+
+mod aggregate;
+mod calls;
+mod columns;
+mod compare;
+mod exact_sum;
+mod grouping;
+mod joins;
+mod kernels;
+mod keyed;
+mod orders;
+mod plain;
+#[cfg(test)]
+mod tests;
+
+pub use plain::plain_bag;
