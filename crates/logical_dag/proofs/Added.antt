@@ -14,9 +14,11 @@ use Rattle.logical_dag.specs.Known.{IsDependency, AreConstants, AreDependencies,
 use Rattle.logical_dag.specs.BlockFacts.{SomeLeaf, columns_of_all, IsInside, AreFactsOfAll}
 use Rattle.logical_dag.specs.Places.{chosen}
 use Rattle.logical_dag.specs.Gathered.{bits_after, IsBlank, IsOverColumns, AreAdded}
-use Rattle.logical_dag.proofs.Classes.{linked_bind, linked_same, classes_start, classes_same, classes_linked}
-use Rattle.logical_dag.proofs.KnownColumns.{columns_set, known_about}
-use Rattle.logical_dag.proofs.Leaves.{some_left, some_right, some_either, EachLeaf, HasSet, HasColumn, all_columns_set, all_columns_some, some_all_columns, some_below}
+use Rattle.logical_dag.proofs.Classes.{linked_bind, linked_same, classes_same, classes_linked, classes_chain, classes_kept}
+use Rattle.logical_dag.proofs.Constants.{constants_same, constants_chain, constants_kept}
+use Rattle.logical_dag.proofs.Dependencies.{dependencies_same, dependencies_chain, dependencies_kept}
+use Rattle.logical_dag.proofs.KnownColumns.{known_about}
+use Rattle.logical_dag.proofs.Leaves.{some_left, some_right, some_either, EachLeaf, HasColumn, formed_sets, union_none, all_columns_set, all_columns_some, some_all_columns, some_below}
 use Rattle.logical_dag.proofs.PairFacts.{EqualOrInside}
 
 -- ---- masks
@@ -45,31 +47,20 @@ module _ (shared : List Facts) (results : List (List ℕ)) where
   determined_column (t ∷ leaves) formed s c (inl h) = inl ((known_about shared results t (formed t (inl refl))).determined s c h)
   determined_column (t ∷ leaves) formed s c (inr h) = inr (determined_column leaves (λ u m. formed u (inr m)) s c h)
 
-  leaf_sets : (leaves : List Expression) → EachLeaf (IsFormed results) leaves → EachLeaf HasSet leaves
-  leaf_sets leaves formed t m = columns_set results t (formed t m)
-
   -- a column of the leaves is below 128
   pub leaf_below : (leaves : List Expression) → EachLeaf (IsFormed results) leaves → (c : ℕ) → SomeLeaf (HasColumn c) leaves → c < 128
-  leaf_below leaves formed c h = some_below leaves (leaf_sets leaves formed) c h
+  leaf_below leaves formed c h = some_below leaves (formed_sets results leaves formed) c h
 
   -- ---- adding
 
   -- no leaves add nothing
   pub none_added : (f : Facts) → IsOverColumns f → AreAdded shared f [] f
   none_added f over = record {
-    columns = sets_same f.columns (union f.columns []) over.set (columns_where-set _) (λ c l. same_tests _ _ (λ h. has_union f.columns [] c l (inl h)) (λ h. one c (union_has f.columns [] c h)));
-    constants = λ c l. (λ h. inl h, λ h. only (has f.constants c ≡ true) h);
-    dependencies = record { stated = λ c l h. inl (l, h, refl); all = λ s c h. let m = only (IsDependency f s c) h in (m.1, λ d. ap (λ (r : List ℕ). has r d) m.2) };
-    classes = classes_same f (λ c d. equal_of f c d ≡ true) (classes_start f over.own) (λ c d. (equal_of f c d ≡ true) ⊎ ⊥) (λ a b h. stated (inl h)) (λ a b h. stated (only (equal_of f a b ≡ true) h));
+    columns = sym (union_none f.columns over.set);
+    constants = constants_kept f (λ c. ⊥) (λ c h. h);
+    dependencies = dependencies_kept f (λ s c. ⊥) (λ s c h. h);
+    classes = classes_kept f (λ c d. ⊥) over.own (λ c d h. h);
   }
-    where
-      only : (A : Type 0) → A ⊎ ⊥ → A
-      only A (inl h) = h
-      only A (inr h) = absurd h
-
-      one : (c : ℕ) → (has f.columns c ≡ true) ⊎ (has [] c ≡ true) → has f.columns c ≡ true
-      one c (inl h) = h
-      one c (inr h) = absurd (cc)
 
   -- with leaves added the facts are still over a set of columns
   pub added_over : (f g : Facts) (leaves : List Expression) → EachLeaf (IsFormed results) leaves → IsOverColumns f → AreAdded shared f leaves g → IsOverColumns g
@@ -108,79 +99,43 @@ module _ (shared : List Facts) (results : List (List ℕ)) where
             go (inl n) = has_union _ _ c l (inl (has_union _ _ c l (inr (some_all_columns xs c l n))))
             go (inr n) = has_union _ _ c l (inr (some_all_columns ys c l n))
 
-    both_constants : AreConstants h (λ c. (has f.constants c ≡ true) ⊎ SomeLeaf (λ t. IsConstant shared t c) (xs ++ ys))
-    both_constants c l = (λ m. forth ((second.constants c l).0 m), λ m. (second.constants c l).1 (back m))
-      where
-        forth : (has g.constants c ≡ true) ⊎ SomeLeaf (λ t. IsConstant shared t c) ys → (has f.constants c ≡ true) ⊎ SomeLeaf (λ t. IsConstant shared t c) (xs ++ ys)
-        forth (inr m) = inr (some_right (λ t. IsConstant shared t c) xs ys m)
-        forth (inl m) = go ((first.constants c l).0 m)
-          where
-            go : (has f.constants c ≡ true) ⊎ SomeLeaf (λ t. IsConstant shared t c) xs → (has f.constants c ≡ true) ⊎ SomeLeaf (λ t. IsConstant shared t c) (xs ++ ys)
-            go (inl n) = inl n
-            go (inr n) = inr (some_left (λ t. IsConstant shared t c) xs ys n)
+    -- what some leaf of either list has
+    abbrev InEither : (Expression → Type 0) → Type 0 → Type 0
+    InEither P A = (A ⊎ SomeLeaf P xs) ⊎ SomeLeaf P ys
 
-        back : (has f.constants c ≡ true) ⊎ SomeLeaf (λ t. IsConstant shared t c) (xs ++ ys) → (has g.constants c ≡ true) ⊎ SomeLeaf (λ t. IsConstant shared t c) ys
-        back (inl m) = inl ((first.constants c l).1 (inl m))
-        back (inr m) = go (some_either (λ t. IsConstant shared t c) xs ys m)
-          where
-            go : SomeLeaf (λ t. IsConstant shared t c) xs ⊎ SomeLeaf (λ t. IsConstant shared t c) ys → (has g.constants c ≡ true) ⊎ SomeLeaf (λ t. IsConstant shared t c) ys
-            go (inl n) = inl ((first.constants c l).1 (inr n))
-            go (inr n) = inr n
+    into_both : (P : Expression → Type 0) (A : Type 0) → InEither P A → A ⊎ SomeLeaf P (xs ++ ys)
+    into_both P A (inl (inl m)) = inl m
+    into_both P A (inl (inr m)) = inr (some_left P xs ys m)
+    into_both P A (inr m) = inr (some_right P xs ys m)
+
+    from_both : (P : Expression → Type 0) (A : Type 0) → A ⊎ SomeLeaf P (xs ++ ys) → InEither P A
+    from_both P A (inl m) = inl (inl m)
+    from_both P A (inr m) = go (some_either P xs ys m)
+      where
+        go : SomeLeaf P xs ⊎ SomeLeaf P ys → InEither P A
+        go (inl n) = inl (inr n)
+        go (inr n) = inr n
+
+    both_constants : AreConstants h (λ c. (has f.constants c ≡ true) ⊎ SomeLeaf (λ t. IsConstant shared t c) (xs ++ ys))
+    both_constants =
+        constants_same h _ _ (constants_chain g h (λ c. (has f.constants c ≡ true) ⊎ SomeLeaf (λ t. IsConstant shared t c) xs) (λ c. SomeLeaf (λ t. IsConstant shared t c) ys) first.constants second.constants)
+        (λ c. into_both (λ t. IsConstant shared t c) (has f.constants c ≡ true)) (λ c. from_both (λ t. IsConstant shared t c) (has f.constants c ≡ true))
 
     both_dependencies : AreDependencies h (λ s c. IsDependency f s c ⊎ SomeLeaf (λ t. Determines shared t s c) (xs ++ ys))
-    both_dependencies = record { stated = λ c l m. forth c l (second.dependencies.stated c l m); all = all }
+    both_dependencies =
+        dependencies_same h _ _
+        (dependencies_chain g h (λ s c. IsDependency f s c ⊎ SomeLeaf (λ t. Determines shared t s c) xs) (λ s c. SomeLeaf (λ t. Determines shared t s c) ys) low first.dependencies second.dependencies)
+        (λ s c. into_both (λ t. Determines shared t s c) (IsDependency f s c)) (λ s c. from_both (λ t. Determines shared t s c) (IsDependency f s c))
       where
-        forth : (c : ℕ) → c < 128 → IsDependency g (by_of h c) c ⊎ SomeLeaf (λ t. Determines shared t (by_of h c) c) ys
-            → IsDependency f (by_of h c) c ⊎ SomeLeaf (λ t. Determines shared t (by_of h c) c) (xs ++ ys)
-        forth c l (inr m) = inr (some_right (λ t. Determines shared t (by_of h c) c) xs ys m)
-        forth c l (inl m) = subst (λ (s : List ℕ). IsDependency f s c ⊎ SomeLeaf (λ t. Determines shared t s c) (xs ++ ys)) (sym m.2) (go (first.dependencies.stated c l m.1))
-          where
-            go : IsDependency f (by_of g c) c ⊎ SomeLeaf (λ t. Determines shared t (by_of g c) c) xs → IsDependency f (by_of g c) c ⊎ SomeLeaf (λ t. Determines shared t (by_of g c) c) (xs ++ ys)
-            go (inl n) = inl n
-            go (inr n) = inr (some_left (λ t. Determines shared t (by_of g c) c) xs ys n)
+        low : (s : List ℕ) (c : ℕ) → IsDependency f s c ⊎ SomeLeaf (λ t. Determines shared t s c) xs → c < 128
+        low s c (inl m) = m.0
+        low s c (inr m) = leaf_below xs formed c (determined_column xs formed s c m)
 
-        earlier : (s : List ℕ) (c : ℕ) → c < 128 → IsDependency f s c ⊎ SomeLeaf (λ t. Determines shared t s c) xs → (has h.determined c ≡ true) × ((d : ℕ) → has s d ≡ has (by_of h c) d)
-        earlier s c l m =
-            let one = first.dependencies.all s c m in
-            let two = second.dependencies.all (by_of g c) c (inl (l, one.0, refl)) in
-            (two.0, λ d. one.1 d ∙ two.1 d)
-
-        all : (s : List ℕ) (c : ℕ) → IsDependency f s c ⊎ SomeLeaf (λ t. Determines shared t s c) (xs ++ ys) → (has h.determined c ≡ true) × ((d : ℕ) → has s d ≡ has (by_of h c) d)
-        all s c (inl m) = earlier s c m.0 (inl m)
-        all s c (inr m) = go (some_either (λ t. Determines shared t s c) xs ys m)
-          where
-            go : SomeLeaf (λ t. Determines shared t s c) xs ⊎ SomeLeaf (λ t. Determines shared t s c) ys → (has h.determined c ≡ true) × ((d : ℕ) → has s d ≡ has (by_of h c) d)
-            go (inl n) = earlier s c (leaf_below xs formed c (determined_column xs formed s c n)) (inr n)
-            go (inr n) = second.dependencies.all s c (inr n)
-
-    abbrev Alike : ℕ → ℕ → Type 0
-    Alike c d = (equal_of f c d ≡ true) ⊎ SomeLeaf (λ t. AreEqual shared t c d) (xs ++ ys)
-
-    abbrev AlikeLater : ℕ → ℕ → Type 0
-    AlikeLater c d = (equal_of g c d ≡ true) ⊎ SomeLeaf (λ t. AreEqual shared t c d) ys
-
-    both_classes : AreClasses h Alike
-    both_classes = classes_same h AlikeLater second.classes Alike forth back
-      where
-        forth : (c d : ℕ) → AlikeLater c d → IsLinked Alike c d
-        forth c d (inl m) = linked_bind (λ a b. (equal_of f a b ≡ true) ⊎ SomeLeaf (λ t. AreEqual shared t a b) xs) Alike each c d (first.classes.there c d m)
-          where
-            each : (a b : ℕ) → (equal_of f a b ≡ true) ⊎ SomeLeaf (λ t. AreEqual shared t a b) xs → IsLinked Alike a b
-            each a b (inl n) = stated (inl n)
-            each a b (inr n) = stated (inr (some_left (λ t. AreEqual shared t a b) xs ys n))
-        forth c d (inr m) = stated (inr (some_right (λ t. AreEqual shared t c d) xs ys m))
-
-        one : (c d : ℕ) → (c ≡ d) ⊎ (equal_of g c d ≡ true) → IsLinked AlikeLater c d
-        one c d (inl e) = linked_same AlikeLater c d e
-        one c d (inr m) = stated (inl m)
-
-        back : (c d : ℕ) → Alike c d → IsLinked AlikeLater c d
-        back c d (inl m) = one c d (first.classes.back c d (stated (inl m)))
-        back c d (inr m) = go (some_either (λ t. AreEqual shared t c d) xs ys m)
-          where
-            go : SomeLeaf (λ t. AreEqual shared t c d) xs ⊎ SomeLeaf (λ t. AreEqual shared t c d) ys → IsLinked AlikeLater c d
-            go (inl n) = one c d (first.classes.back c d (stated (inr n)))
-            go (inr n) = stated (inr n)
+    both_classes : AreClasses h (λ c d. (equal_of f c d ≡ true) ⊎ SomeLeaf (λ t. AreEqual shared t c d) (xs ++ ys))
+    both_classes =
+        classes_same h _ (classes_chain g h (λ c d. (equal_of f c d ≡ true) ⊎ SomeLeaf (λ t. AreEqual shared t c d) xs) (λ c d. SomeLeaf (λ t. AreEqual shared t c d) ys) first.classes second.classes)
+        (λ c d. (equal_of f c d ≡ true) ⊎ SomeLeaf (λ t. AreEqual shared t c d) (xs ++ ys))
+        (λ c d m. stated (into_both (λ t. AreEqual shared t c d) (equal_of f c d ≡ true) m)) (λ c d m. stated (from_both (λ t. AreEqual shared t c d) (equal_of f c d ≡ true) m))
 
     pub both_added : AreAdded shared f (xs ++ ys) h
     both_added = record {

@@ -19,7 +19,7 @@ use Rattle.scope_expr.specs.Value.{is_true}
 use Rattle.logical_dag.specs.Rows.{is_present, total, summed, first_in, exact, together}
 use Rattle.logical_dag.specs.First.{first_of}
 use Rattle.logical_dag.proofs.Bags.{along_permutation, filter_permuted}
-use Rattle.logical_dag.proofs.OrderLemmas.{either_way, above_too, sorted_permuted}
+use Rattle.logical_dag.proofs.OrderLemmas.{either_way, above_too, all_sorted, sorted_permuted}
 
 -- ---- presence
 
@@ -121,7 +121,7 @@ sums_together parts = ap₂ (λ b t. cond b value.Null (value.Wide t)) (presence
 
 -- ---- the first in an order
 
--- what a filter keeps passes it, and what holds of each element holds of each of the sorted list
+-- what a filter keeps passes it
 all_filter : (p : Value → Bool) (vs : List Value) → AllByRecursion (λ v. p v ≡ true) (filter p vs)
 all_filter p [] = tt
 all_filter p (v ∷ vs) = go (all_filter p vs) (p v) refl
@@ -129,15 +129,6 @@ all_filter p (v ∷ vs) = go (all_filter p vs) (p v) refl
     go : AllByRecursion (λ v. p v ≡ true) (filter p vs) → (b : Bool) → p v ≡ b → AllByRecursion (λ w. p w ≡ true) (cond b (v ∷ filter p vs) (filter p vs))
     go more true e = (e, more)
     go more false e = more
-
-all_insert : (P : Value → Type 0) (cmp : Value → Value → Ordering) (v : Value) (vs : List Value) → P v → AllByRecursion P vs → AllByRecursion P (insert_by cmp v vs)
-all_insert P cmp v [] h k = (h, tt)
-all_insert P cmp v (w ∷ vs) h k =
-    elim (is_gt (cmp v w)) as (λ b. AllByRecursion P (cond b (w ∷ insert_by cmp v vs) (v ∷ w ∷ vs))) [ true ↦ (k.0, all_insert P cmp v vs h k.1) | false ↦ (h, k) ]
-
-all_sorted : (P : Value → Type 0) (cmp : Value → Value → Ordering) (vs : List Value) → AllByRecursion P vs → AllByRecursion P (sorted cmp vs)
-all_sorted P cmp [] h = tt
-all_sorted P cmp (v ∷ vs) h = all_insert P cmp v (sorted cmp vs) h.0 (all_sorted P cmp vs h.1)
 
 -- where a present value is put among present ones, the first is the first of two
 first_inserted : (cmp : Value → Value → Ordering) (v : Value) (vs : List Value) → is_present v ≡ true → AllByRecursion (λ w. is_present w ≡ true) vs

@@ -3,10 +3,10 @@ use Rattle.std.proofs.Common.{◌≡◌, ◌<◌, ◌≤◌, List, [], ◌∷◌
 use Rattle.std.proofs.lemmas.List.{length-map}
 use Rattle.logical_dag.specs.declared.logic_op.LogicOp.{LogicOp}
 use Rattle.logical_dag.specs.declared.logic_op.LogicOp.TheVariants.{Join}
-use Rattle.logical_dag.specs.declared.logical.Logical.{Logical, out-Logical, fold_out-Logical}
+use Rattle.logical_dag.specs.declared.logical.Logical.{Logical, out-Logical}
 use Rattle.logical_dag.specs.Tree.{leaf, one, two, node, Expression, tree_of}
 use Rattle.logical_dag.specs.Places.{block_leaves, block_pairs}
-use Rattle.logical_dag.proofs.Shapes.{tree_two}
+use Rattle.logical_dag.proofs.Shapes.{opened, tree_two}
 
 -- the expression is no Join
 abbrev pub IsNoJoin : Expression → Type 0
@@ -30,9 +30,6 @@ node_two : (op p : LogicOp) (kids : List Expression) (t u : Expression) → node
 node_two op p [] t u e = absurd (cc)
 node_two op p (v ∷ []) t u e = absurd (cc)
 node_two op p (v ∷ w ∷ kids) t u e = (cc, omega arith)
-
-opened : (t : Logical) → tree_of t ≡ node (out-Logical t).op (map tree_of (out-Logical t).kids)
-opened t = fold_out-Logical Expression (λ x. node x.op x.kids) t
 
 -- a node of another kind is no Join
 pub other_kind : (t : Logical) → ((on : _) → (out-Logical t).op ≡ Join on → ⊥) → IsNoJoin (tree_of t)

@@ -3,7 +3,7 @@ use Rattle.std.proofs.Common.{◌≡◌, ℕ, ◌<◌, ◌≤◌, true, false, c
 use Rattle.col_sets.specs.Sets.{has}
 use Rattle.std.specs.Prelude.{Contains}
 use Rattle.std.proofs.lemmas.List.Elements.{All-contains, Contains-append_cases}
-use Rattle.col_sets.specs.Columns.{union_has, has_union, has_below}
+use Rattle.col_sets.specs.Columns.{has_union, has_below}
 use Rattle.structural_props.specs.Actions.{In}
 use Rattle.logical_dag.specs.declared.logic_op.LogicOp.TheVariants.{Join}
 use Rattle.logical_dag.specs.Tree.{Expression, leaf, one, two, columns_of}
@@ -12,22 +12,10 @@ use Rattle.logical_dag.specs.Places.{block_leaves, block_pairs, chosen, IsJoinOf
 use Rattle.logical_dag.specs.BlockFacts.{SomeLeaf}
 use Rattle.logical_dag.proofs.Aggregates.{count-cons}
 use Rattle.logical_dag.proofs.KnownColumns.{columns_set}
-use Rattle.logical_dag.proofs.Leaves.{some_at, some_find, some_then, some_left, some_right, some_either, EachLeaf, each_both, HasSet, HasColumn, AreApart, apart_both, chosen_in, chosen_apart}
+use Rattle.logical_dag.proofs.Leaves.{some_at, some_find, some_then, some_either, EachLeaf, each_both, HasColumn, AreApart, apart_both, chosen_in, chosen_apart}
 use Rattle.logical_dag.proofs.JoinFacts.{IsNoneWithin, join_formed}
 
--- the columns of a block are those of its leaves
-pub block_column_some : (t : Expression) (c : ℕ) → HasColumn c t → SomeLeaf (HasColumn c) (block_leaves t)
-block_column_some (two (Join on) t u) c h = go (block_column_some t c) (block_column_some u c) (union_has (columns_of t) (columns_of u) c h)
-  where
-    go : (HasColumn c t → SomeLeaf (HasColumn c) (block_leaves t)) → (HasColumn c u → SomeLeaf (HasColumn c) (block_leaves u)) → HasColumn c t ⊎ HasColumn c u
-        → SomeLeaf (HasColumn c) (block_leaves t ++ block_leaves u)
-    go left right (inl k) = some_left (HasColumn c) (block_leaves t) (block_leaves u) (left k)
-    go left right (inr k) = some_right (HasColumn c) (block_leaves t) (block_leaves u) (right k)
-block_column_some (two op t u) c h = inl h
-block_column_some (one op t) c h = inl h
-block_column_some (leaf op) c h = inl h
-
--- and the other way round
+-- a column of some leaf of a block is one of the block
 pub some_block_column : (t : Expression) (c : ℕ) → c < 128 → SomeLeaf (HasColumn c) (block_leaves t) → HasColumn c t
 some_block_column (two (Join on) t u) c l h =
     has_union (columns_of t) (columns_of u) c l (go (some_block_column t c l) (some_block_column u c l) (some_either (HasColumn c) (block_leaves t) (block_leaves u) h))
@@ -75,10 +63,6 @@ module _ (results : List (List ℕ)) where
   block_formed (two op t u) h v m = only (IsFormed results) (two op t u) v h m
   block_formed (one op t) h v m = only (IsFormed results) (one op t) v h m
   block_formed (leaf op) h v m = only (IsFormed results) (leaf op) v h m
-
-  -- the columns of formed leaves are sets
-  pub formed_sets : (leaves : List Expression) → EachLeaf (IsFormed results) leaves → EachLeaf HasSet leaves
-  formed_sets leaves h t m = columns_set results t (h t m)
 
   -- a column of some leaf is one of the block
   pub some_block : (t : Expression) → IsFormed results t → (c : ℕ) → SomeLeaf (HasColumn c) (block_leaves t) → HasColumn c t

@@ -1,18 +1,19 @@
 -- Facts under new names, one column after the other.
-use Rattle.std.proofs.Common.{◌≡◌, ◌≢◌, ℕ, ◌+◌, ◌<◌, ◌≤◌, Bool, true, false, List, [], length, refl, sym, ap, ◌∙◌, subst, arith, ◌⊎◌, inl, inr, nat_eq, nat_lt, Option, Some, None, slice_index_or}
+use Rattle.std.proofs.Common.{◌≡◌, ◌≢◌, ℕ, ◌+◌, ◌<◌, ◌≤◌, Bool, true, false, List, length, refl, sym, ap, ◌∙◌, subst, arith, ◌⊎◌, inl, inr, nat_eq, nat_lt, Option, Some, None}
 use Rattle.std.specs.Prelude.{◌↔◌, IsSome, slice_set}
 use Rattle.std.proofs.lemmas.Bool.Decides.{nat_tests}
-use Rattle.std.proofs.lemmas.List.{get_or-set_same, get_or-set_other, get_or_past}
-use Rattle.std.proofs.lemmas.Option.{get_or_from_slice_get, slice_get_read}
+use Rattle.std.proofs.lemmas.List.{get_or_past}
 use Rattle.col_sets.specs.Sets.{has, with_column}
 use Rattle.col_sets.specs.Columns.{with_has, has_with}
-use Rattle.col_sets.specs.Tests.{from_test, to_test, same_tests}
+use Rattle.col_sets.specs.Tests.{from_test, same_tests}
 use Rattle.fd_closure.specs.declared.facts.Facts.{Facts}
 use Rattle.fd_closure.specs.Known.{by_of, equal_of}
 use Rattle.logical_dag.specs.declared.naming.Names.{Names}
 use Rattle.logical_dag.specs.Facts.{IsLinked, stated, turned, chained, Renamed, BothRenamed, IsRenamedSet, DependencyRenamed}
 use Rattle.logical_dag.specs.Known.{name_of, IsNaming, IsDependency, IsOwn, AreClasses, AreDependencies, AreConstants, CarriedConstants, CarriedDependencies, CarriedEqualities, AddedDependency, IsFirstAlike, IsEquated, AreCarried, AreApart}
-use Rattle.logical_dag.proofs.Classes.{linked_same, equal_turned, equal_chained, classes_start, classes_same, classes_merged}
+use Rattle.logical_dag.proofs.Classes.{linked_same, equal_turned, equal_chained, classes_same, classes_merged, classes_kept}
+use Rattle.logical_dag.proofs.Constants.{constants_with}
+use Rattle.logical_dag.proofs.Dependencies.{dependencies_same, dependencies_kept, dependencies_chain, dependencies_with}
 
 -- a column with a name is below 128
 pub named_low : (names : Names) (b c : ℕ) → length names.of ≡ 128 → name_of names b ≡ Some c → b < 128
@@ -28,15 +29,7 @@ named_low names b c l e = go (nat_lt b 128) refl
 -- a constant more
 pub constant_added : (f g : Facts) (d : ℕ) (t : Bool) (o : Option ℕ) → g.constants ≡ with_column f.constants d → t ≡ true → o ≡ Some d
     → AreConstants g (λ c. (has f.constants c ≡ true) ⊎ ((t ≡ true) × (o ≡ Some c)))
-constant_added f g d t o e h k c l = (λ m. there (with_has f.constants d c (subst (λ (s : List ℕ). has s c ≡ true) e m)), λ m. subst (λ (s : List ℕ). has s c ≡ true) (sym e) (has_with f.constants d c l (back m)))
-  where
-    there : (c ≡ d) ⊎ (has f.constants c ≡ true) → (has f.constants c ≡ true) ⊎ ((t ≡ true) × (o ≡ Some c))
-    there (inl i) = inr (h, k ∙ ap Some (sym i))
-    there (inr m) = inl m
-
-    back : (has f.constants c ≡ true) ⊎ ((t ≡ true) × (o ≡ Some c)) → (c ≡ d) ⊎ (has f.constants c ≡ true)
-    back (inl m) = inr m
-    back (inr m) = let i : Some c ≡ Some d = sym m.1 ∙ k in inl (cc)
+constant_added f g d t o e h k = constants_with f g d (λ c. (t ≡ true) × (o ≡ Some c)) e (λ c m. let i : Some c ≡ Some d = sym m.1 ∙ k in cc) (λ c i. (h, k ∙ ap Some (sym i)))
 
 -- what was constant, and what is constant under its name, of the columns below a
 abbrev pub ConstantsBelow : Facts → (ℕ → Option ℕ) → Facts → ℕ → ℕ → Type 0
@@ -49,10 +42,6 @@ DependenciesBelow from name into a s c = IsDependency into s c ⊎ DependencyRen
 -- what was equal, and what is equal under its names, of the columns below a
 abbrev pub EqualitiesBelow : Facts → (ℕ → Option ℕ) → Facts → ℕ → ℕ → ℕ → Type 0
 EqualitiesBelow from name into n c d = (equal_of into c d ≡ true) ⊎ BothRenamed name (λ a b. (a < n) × (b < n) × (equal_of from a b ≡ true)) c d
-
--- what stands at a place of a list, whatever is said of places past its end
-pub read_at : {X : Type 0} (xs : List X) (i : ℕ) (x d : X) → i < length xs → x ≡ slice_index_or xs i x → slice_index_or xs i d ≡ x
-read_at xs i x d l e = get_or_from_slice_get xs i x d (slice_get_read xs (length xs) i x refl l e)
 
 -- the renamed columns of a set so far, with one more column
 pub renamed_put : (name : ℕ → Option ℕ) (set r : List ℕ) (c d : ℕ) → d < 128 → IsNaming name → has set c ≡ true → name c ≡ Some d
@@ -101,69 +90,42 @@ pub dependency_added : (from into g : Facts) (name : ℕ → Option ℕ) (a c : 
     → g ≡ record into { determined = with_column into.determined c; by = slice_set into.by c s } → has from.determined a ≡ true → name a ≡ Some c
     → IsRenamedSet name (by_of from a) s → has into.determined c ≡ false → AreDependencies g (AddedDependency from name a into)
 dependency_added from into g name a c s low n under e has_one named set free =
-    subst (λ (f : Facts). AreDependencies f (AddedDependency from name a into)) (sym e) (record { stated = λ d l h. given d l (nat_eq d c) refl (with_has into.determined c d h); all = all })
+    dependencies_with into g c s (DependencyRenamed name (λ r b. (b ≡ a) × IsDependency from r b)) low n e (by_of from a, a, (refl, (under, has_one, refl)), named, set) only
+    (λ h. absurd (let gone = free in cc))
   where
-    same : (d : ℕ) → d ≡ c → slice_index_or (slice_set into.by c s) d [] ≡ s
-    same d e = ap (λ (i : ℕ). slice_index_or (slice_set into.by c s) i []) e ∙ get_or-set_same into.by c s [] n
-
-    kept : (d : ℕ) → nat_eq d c ≡ false → slice_index_or (slice_set into.by c s) d [] ≡ by_of into d
-    kept d e = get_or-set_other into.by c d s [] (let other : d ≢ c = grind (arith, nat_tests) in other)
-
-    given : (d : ℕ) → d < 128 → (t : Bool) → nat_eq d c ≡ t → (d ≡ c) ⊎ (has into.determined d ≡ true) → AddedDependency from name a into (slice_index_or (slice_set into.by c s) d []) d
-    given d l true t h =
-        let at : d ≡ c = from_test d c t in
-        inr (by_of from a, a, (refl, (under, has_one, refl)), named ∙ ap Some (sym at), subst (λ (r : List ℕ). IsRenamedSet name (by_of from a) r) (sym (same d at)) set)
-    given d l false t (inl i) = absurd (let k = to_test d c i in cc)
-    given d l false t (inr h) = inl (l, h, kept d t)
-
-    all : (r : List ℕ) (d : ℕ) → AddedDependency from name a into r d → (has (with_column into.determined c) d ≡ true) × ((i : ℕ) → has r i ≡ has (slice_index_or (slice_set into.by c s) d []) i)
-    all r d (inl h) = go (nat_eq d c) refl
-      where
-        go : (t : Bool) → nat_eq d c ≡ t → (has (with_column into.determined c) d ≡ true) × ((i : ℕ) → has r i ≡ has (slice_index_or (slice_set into.by c s) d []) i)
-        go true t = absurd (let k : has into.determined d ≡ false = ap (has into.determined) (from_test d c t) ∙ free in let m = h.1 in cc)
-        go false t = (has_with into.determined c d h.0 (inr h.1), λ i. ap (λ (q : List ℕ). has q i) (h.2 ∙ sym (kept d t)))
-    all r d (inr h) =
+    only : (r : List ℕ) (d : ℕ) → DependencyRenamed name (λ r b. (b ≡ a) × IsDependency from r b) r d → (d ≡ c) × ((i : ℕ) → has r i ≡ has s i)
+    only r d h =
         let b_is : h.1 ≡ a = h.2.0 in
         let i : Some d ≡ Some c = sym h.3 ∙ ap name b_is ∙ named in
         let at : d ≡ c = cc in
         let r_is : h.0 ≡ by_of from a = h.2.1.2 ∙ ap (by_of from) b_is in
-        let other : IsRenamedSet name (by_of from a) r = subst (λ (q : List ℕ). IsRenamedSet name q r) r_is h.4 in
-        (has_with into.determined c d (subst (λ (j : ℕ). j < 128) (sym at) low) (inl at), λ j. renamed_once name (by_of from a) r s other set j ∙ ap (λ (q : List ℕ). has q j) (sym (same d at)))
+        (at, renamed_once name (by_of from a) r s (subst (λ (q : List ℕ). IsRenamedSet name q r) r_is h.4) set)
 
 module _ (from : Facts) (name : ℕ → Option ℕ) (into : Facts) (naming : IsNaming name) where
   -- the next column's dependency
   pub dependencies_step : (a : ℕ) (f g : Facts) → AreDependencies f (DependenciesBelow from name into a) → AreDependencies g (AddedDependency from name a f) → AreDependencies g (DependenciesBelow from name into (a + 1))
-  dependencies_step a f g h k = record { stated = λ c l m. there c (k.stated c l m); all = all }
+  dependencies_step a f g h k = dependencies_same g _ _ (dependencies_chain f g (DependenciesBelow from name into a) (DependencyRenamed name (λ r b. (b ≡ a) × IsDependency from r b)) low h k) forth back
     where
-      more : (s : List ℕ) (c : ℕ) → DependenciesBelow from name into a s c → DependenciesBelow from name into (a + 1) s c
-      more s c (inl m) = inl m
-      more s c (inr m) = let l : m.1 < a = m.2.0 in inr (m.0, m.1, (omega arith, m.2.1), m.3, m.4)
-
-      there : (c : ℕ) → AddedDependency from name a f (by_of g c) c → DependenciesBelow from name into (a + 1) (by_of g c) c
-      there c (inl m) = subst (λ (s : List ℕ). DependenciesBelow from name into (a + 1) s c) (sym m.2) (more (by_of f c) c (h.stated c m.0 m.1))
-      there c (inr m) = let i : m.1 ≡ a = m.2.0 in inr (m.0, m.1, (omega arith, m.2.1), m.3, m.4)
-
       low : (s : List ℕ) (c : ℕ) → DependenciesBelow from name into a s c → c < 128
       low s c (inl m) = m.0
       low s c (inr m) = naming.below m.1 c m.3
 
-      old : (s : List ℕ) (c : ℕ) → DependenciesBelow from name into a s c → (has g.determined c ≡ true) × ((d : ℕ) → has s d ≡ has (by_of g c) d)
-      old s c m =
-          let p = h.all s c m in
-          let q = k.all (by_of f c) c (inl (low s c m, p.0, refl)) in
-          (q.0, λ d. p.1 d ∙ q.1 d)
+      forth : (s : List ℕ) (c : ℕ) → DependenciesBelow from name into a s c ⊎ DependencyRenamed name (λ r b. (b ≡ a) × IsDependency from r b) s c → DependenciesBelow from name into (a + 1) s c
+      forth s c (inl (inl m)) = inl m
+      forth s c (inl (inr m)) = let l : m.1 < a = m.2.0 in inr (m.0, m.1, (omega arith, m.2.1), m.3, m.4)
+      forth s c (inr m) = let i : m.1 ≡ a = m.2.0 in inr (m.0, m.1, (omega arith, m.2.1), m.3, m.4)
 
-      all : (s : List ℕ) (c : ℕ) → DependenciesBelow from name into (a + 1) s c → (has g.determined c ≡ true) × ((d : ℕ) → has s d ≡ has (by_of g c) d)
-      all s c (inl m) = old s c (inl m)
-      all s c (inr m) = go (nat_eq m.1 a) refl
+      back : (s : List ℕ) (c : ℕ) → DependenciesBelow from name into (a + 1) s c → DependenciesBelow from name into a s c ⊎ DependencyRenamed name (λ r b. (b ≡ a) × IsDependency from r b) s c
+      back s c (inl m) = inl (inl m)
+      back s c (inr m) = go (nat_eq m.1 a) refl
         where
-          go : (t : Bool) → nat_eq m.1 a ≡ t → (has g.determined c ≡ true) × ((d : ℕ) → has s d ≡ has (by_of g c) d)
-          go true t = k.all s c (inr (m.0, m.1, (from_test m.1 a t, m.2.1), m.3, m.4))
-          go false t = let l : m.1 < a + 1 = m.2.0 in let other : m.1 ≢ a = grind (arith, nat_tests) in old s c (inr (m.0, m.1, (omega arith, m.2.1), m.3, m.4))
+          go : (t : Bool) → nat_eq m.1 a ≡ t → DependenciesBelow from name into a s c ⊎ DependencyRenamed name (λ r b. (b ≡ a) × IsDependency from r b) s c
+          go true t = inr (m.0, m.1, (from_test m.1 a t, m.2.1), m.3, m.4)
+          go false t = let l : m.1 < a + 1 = m.2.0 in let other : m.1 ≢ a = grind (arith, nat_tests) in inl (inr (m.0, m.1, (omega arith, m.2.1), m.3, m.4))
 
   -- once all columns have been looked at
   pub dependencies_end : (n : ℕ) (f : Facts) → ((b c : ℕ) → name b ≡ Some c → b < n) → AreDependencies f (DependenciesBelow from name into n) → AreDependencies f (CarriedDependencies from name into)
-  dependencies_end n f low h = record { stated = λ c l m. there (by_of f c) c (h.stated c l m); all = λ s c m. h.all s c (back s c m) }
+  dependencies_end n f low h = dependencies_same f _ _ h there back
     where
       there : (s : List ℕ) (c : ℕ) → DependenciesBelow from name into n s c → CarriedDependencies from name into s c
       there s c (inl m) = inl m
@@ -175,11 +137,7 @@ module _ (from : Facts) (name : ℕ → Option ℕ) (into : Facts) (naming : IsN
 
   -- at first nothing is equated
   pub equalities_init : IsOwn into → AreClasses into (EqualitiesBelow from name into 0)
-  equalities_init own = classes_same into (λ a b. equal_of into a b ≡ true) (classes_start into own) (EqualitiesBelow from name into 0) (λ a b h. stated (inl h)) back
-    where
-      back : (a b : ℕ) → EqualitiesBelow from name into 0 a b → IsLinked (λ a b. equal_of into a b ≡ true) a b
-      back a b (inl h) = stated h
-      back a b (inr h) = let none : h.0 < 0 = h.2.0 in absurd (omega arith)
+  equalities_init own = classes_kept into (BothRenamed name (λ a b. (a < 0) × (b < 0) × (equal_of from a b ≡ true))) own (λ a b h. let none : h.0 < 0 = h.2.0 in omega arith)
 
   -- the next column's equalities: those with the first column that is equal to it give the others by chains
   module _ (n : ℕ) (f : Facts) (h : AreClasses f (EqualitiesBelow from name into n)) where
@@ -289,37 +247,13 @@ SameBelow from into a s c = IsDependency into s c ⊎ ((c < a) × IsDependency f
 pub same_added : (from into g : Facts) (a : ℕ) (s : List ℕ) → a < 128 → a < length into.by → g ≡ record into { determined = with_column into.determined a; by = slice_set into.by a s } → s ≡ by_of from a
     → has from.determined a ≡ true → has into.determined a ≡ false → AreDependencies g (λ s c. IsDependency into s c ⊎ ((c ≡ a) × IsDependency from s c))
 same_added from into g a s low n e is has_one free =
-    subst (λ (f : Facts). AreDependencies f (λ s c. IsDependency into s c ⊎ ((c ≡ a) × IsDependency from s c))) (sym e) (record { stated = λ d l h. given d l (nat_eq d a) refl (with_has into.determined a d h); all = all })
-  where
-    same : (d : ℕ) → d ≡ a → slice_index_or (slice_set into.by a s) d [] ≡ s
-    same d e = ap (λ (i : ℕ). slice_index_or (slice_set into.by a s) i []) e ∙ get_or-set_same into.by a s [] n
-
-    kept : (d : ℕ) → nat_eq d a ≡ false → slice_index_or (slice_set into.by a s) d [] ≡ by_of into d
-    kept d e = get_or-set_other into.by a d s [] (let other : d ≢ a = grind (arith, nat_tests) in other)
-
-    given : (d : ℕ) → d < 128 → (t : Bool) → nat_eq d a ≡ t → (d ≡ a) ⊎ (has into.determined d ≡ true)
-        → IsDependency into (slice_index_or (slice_set into.by a s) d []) d ⊎ ((d ≡ a) × IsDependency from (slice_index_or (slice_set into.by a s) d []) d)
-    given d l true t h =
-        let at : d ≡ a = from_test d a t in
-        inr (at, (l, subst (λ (i : ℕ). has from.determined i ≡ true) (sym at) has_one, same d at ∙ is ∙ ap (by_of from) (sym at)))
-    given d l false t (inl i) = absurd (let k = to_test d a i in cc)
-    given d l false t (inr h) = inl (l, h, kept d t)
-
-    all : (r : List ℕ) (d : ℕ) → IsDependency into r d ⊎ ((d ≡ a) × IsDependency from r d) → (has (with_column into.determined a) d ≡ true) × ((i : ℕ) → has r i ≡ has (slice_index_or (slice_set into.by a s) d []) i)
-    all r d (inl h) = go (nat_eq d a) refl
-      where
-        go : (t : Bool) → nat_eq d a ≡ t → (has (with_column into.determined a) d ≡ true) × ((i : ℕ) → has r i ≡ has (slice_index_or (slice_set into.by a s) d []) i)
-        go true t = absurd (let k : has into.determined d ≡ false = ap (has into.determined) (from_test d a t) ∙ free in let m = h.1 in cc)
-        go false t = (has_with into.determined a d h.0 (inr h.1), λ i. ap (λ (q : List ℕ). has q i) (h.2 ∙ sym (kept d t)))
-    all r d (inr h) = (has_with into.determined a d h.1.0 (inl h.0), λ i. ap (λ (q : List ℕ). has q i) (h.1.2 ∙ ap (by_of from) h.0 ∙ sym is ∙ sym (same d h.0)))
+    dependencies_with into g a s (λ r c. (c ≡ a) × IsDependency from r c) low n e (refl, (low, has_one, is))
+    (λ r c m. (m.0, λ i. ap (λ (q : List ℕ). has q i) (m.1.2 ∙ ap (by_of from) m.0 ∙ sym is))) (λ h. absurd (let gone = free in cc))
 
 -- nothing more depends on anything
 pub same_none : (from into : Facts) (a : ℕ) → has from.determined a ≡ false → AreDependencies into (λ s c. IsDependency into s c ⊎ ((c ≡ a) × IsDependency from s c))
-same_none from into a none = record { stated = λ c l m. inl (l, m, refl); all = all }
-  where
-    all : (s : List ℕ) (c : ℕ) → IsDependency into s c ⊎ ((c ≡ a) × IsDependency from s c) → (has into.determined c ≡ true) × ((d : ℕ) → has s d ≡ has (by_of into c) d)
-    all s c (inl m) = (m.1, λ d. ap (λ (r : List ℕ). has r d) m.2)
-    all s c (inr m) = absurd (let k : has from.determined c ≡ false = ap (has from.determined) m.0 ∙ none in let l = m.1.1 in cc)
+same_none from into a none =
+    dependencies_kept into (λ s c. (c ≡ a) × IsDependency from s c) (λ s c m. let gone : has from.determined c ≡ false = ap (has from.determined) m.0 ∙ none in let there = m.1.1 in cc)
 
 module _ (from into : Facts) (apart : AreApart into from) where
   -- the next column has no dependency yet
@@ -335,43 +269,30 @@ module _ (from into : Facts) (apart : AreApart into from) where
       go true t = absurd (no (h.stated a l t))
 
   pub same_first : AreDependencies into (SameBelow from into 0)
-  same_first = record { stated = λ c l m. inl (l, m, refl); all = all }
-    where
-      all : (s : List ℕ) (c : ℕ) → SameBelow from into 0 s c → (has into.determined c ≡ true) × ((d : ℕ) → has s d ≡ has (by_of into c) d)
-      all s c (inl m) = (m.1, λ d. ap (λ (r : List ℕ). has r d) m.2)
-      all s c (inr m) = let l : c < 0 = m.0 in absurd (omega arith)
+  same_first = dependencies_kept into (λ s c. (c < 0) × IsDependency from s c) (λ s c m. let l : c < 0 = m.0 in omega arith)
 
   pub same_step : (a : ℕ) (f g : Facts) → AreDependencies f (SameBelow from into a) → AreDependencies g (λ s c. IsDependency f s c ⊎ ((c ≡ a) × IsDependency from s c)) → AreDependencies g (SameBelow from into (a + 1))
-  same_step a f g h k = record { stated = λ c l m. there c (k.stated c l m); all = all }
+  same_step a f g h k = dependencies_same g _ _ (dependencies_chain f g (SameBelow from into a) (λ s c. (c ≡ a) × IsDependency from s c) low h k) forth back
     where
-      more : (s : List ℕ) (c : ℕ) → SameBelow from into a s c → SameBelow from into (a + 1) s c
-      more s c (inl m) = inl m
-      more s c (inr m) = let l : c < a = m.0 in inr (omega arith, m.1)
-
-      there : (c : ℕ) → IsDependency f (by_of g c) c ⊎ ((c ≡ a) × IsDependency from (by_of g c) c) → SameBelow from into (a + 1) (by_of g c) c
-      there c (inl m) = subst (λ (s : List ℕ). SameBelow from into (a + 1) s c) (sym m.2) (more (by_of f c) c (h.stated c m.0 m.1))
-      there c (inr m) = let e : c ≡ a = m.0 in inr (omega arith, m.1)
-
       low : (s : List ℕ) (c : ℕ) → SameBelow from into a s c → c < 128
       low s c (inl m) = m.0
       low s c (inr m) = m.1.0
 
-      old : (s : List ℕ) (c : ℕ) → SameBelow from into a s c → (has g.determined c ≡ true) × ((d : ℕ) → has s d ≡ has (by_of g c) d)
-      old s c m =
-          let p = h.all s c m in
-          let q = k.all (by_of f c) c (inl (low s c m, p.0, refl)) in
-          (q.0, λ d. p.1 d ∙ q.1 d)
+      forth : (s : List ℕ) (c : ℕ) → SameBelow from into a s c ⊎ ((c ≡ a) × IsDependency from s c) → SameBelow from into (a + 1) s c
+      forth s c (inl (inl m)) = inl m
+      forth s c (inl (inr m)) = let l : c < a = m.0 in inr (omega arith, m.1)
+      forth s c (inr m) = let e : c ≡ a = m.0 in inr (omega arith, m.1)
 
-      all : (s : List ℕ) (c : ℕ) → SameBelow from into (a + 1) s c → (has g.determined c ≡ true) × ((d : ℕ) → has s d ≡ has (by_of g c) d)
-      all s c (inl m) = old s c (inl m)
-      all s c (inr m) = go (nat_eq c a) refl
+      back : (s : List ℕ) (c : ℕ) → SameBelow from into (a + 1) s c → SameBelow from into a s c ⊎ ((c ≡ a) × IsDependency from s c)
+      back s c (inl m) = inl (inl m)
+      back s c (inr m) = go (nat_eq c a) refl
         where
-          go : (t : Bool) → nat_eq c a ≡ t → (has g.determined c ≡ true) × ((d : ℕ) → has s d ≡ has (by_of g c) d)
-          go true t = k.all s c (inr (from_test c a t, m.1))
-          go false t = let l : c < a + 1 = m.0 in let other : c ≢ a = grind (arith, nat_tests) in old s c (inr (omega arith, m.1))
+          go : (t : Bool) → nat_eq c a ≡ t → SameBelow from into a s c ⊎ ((c ≡ a) × IsDependency from s c)
+          go true t = inr (from_test c a t, m.1)
+          go false t = let l : c < a + 1 = m.0 in let other : c ≢ a = grind (arith, nat_tests) in inl (inr (omega arith, m.1))
 
   pub same_end : (n : ℕ) (f : Facts) → 128 ≤ n → AreDependencies f (SameBelow from into n) → AreDependencies f (λ s c. IsDependency into s c ⊎ IsDependency from s c)
-  same_end n f l h = record { stated = λ c m k. there (by_of f c) c (h.stated c m k); all = λ s c m. h.all s c (back s c m) }
+  same_end n f l h = dependencies_same f _ _ h there back
     where
       there : (s : List ℕ) (c : ℕ) → SameBelow from into n s c → IsDependency into s c ⊎ IsDependency from s c
       there s c (inl m) = inl m

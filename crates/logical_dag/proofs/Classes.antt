@@ -1,5 +1,5 @@
 -- Classes of equal columns and the chains that link their columns.
-use Rattle.std.proofs.Common.{◌≡◌, ℕ, ◌<◌, true, ◌&&◌, ◌||◌, refl, sym, ◌∙◌, subst, ◌⊎◌, inl, inr}
+use Rattle.std.proofs.Common.{◌≡◌, ℕ, ◌<◌, true, ◌&&◌, ◌||◌, List, refl, sym, ap, ◌∙◌, subst, ◌⊎◌, inl, inr}
 use Rattle.std.specs.Prelude.{◌↔◌}
 use Rattle.col_sets.specs.Tests.{both, and_true, either, or_left, or_right}
 use Rattle.fd_closure.specs.declared.facts.Facts.{Facts}
@@ -111,3 +111,57 @@ module _ (f : Facts) (P : ℕ → ℕ → Type 0) (h : AreClasses f P) where
 
       linked_back : (a b : ℕ) → IsLinked (λ a b. P a b ⊎ ((a ≡ c) × (b ≡ d))) a b → (a ≡ b) ⊎ (equal_of g a b ≡ true)
       linked_back = linked_one g (λ a b. P a b ⊎ ((a ≡ c) × (b ≡ d))) stated_back
+
+-- facts of the same classes
+pub classes_moved : (f g : Facts) (P : ℕ → ℕ → Type 0) → g.class ≡ f.class → AreClasses f P → AreClasses g P
+classes_moved f g P e h = record {
+  own = λ c l. same c c ∙ h.own c l;
+  there = λ c d k. h.there c d (sym (same c d) ∙ k);
+  back = λ c d l. go c d (h.back c d l);
+}
+  where
+    same : (c d : ℕ) → equal_of g c d ≡ equal_of f c d
+    same c d = ap (λ (s : List ℕ). equal_of (record f { class = s }) c d) e
+
+    go : (c d : ℕ) → (c ≡ d) ⊎ (equal_of f c d ≡ true) → (c ≡ d) ⊎ (equal_of g c d ≡ true)
+    go c d (inl i) = inl i
+    go c d (inr k) = inr (same c d ∙ k)
+
+-- equalities of one step after another
+pub classes_chain : (f g : Facts) (P Q : ℕ → ℕ → Type 0) → AreClasses f P → AreClasses g (λ c d. (equal_of f c d ≡ true) ⊎ Q c d) → AreClasses g (λ c d. P c d ⊎ Q c d)
+classes_chain f g P Q h k = classes_same g (λ c d. (equal_of f c d ≡ true) ⊎ Q c d) k (λ c d. P c d ⊎ Q c d) there back
+  where
+    there : (c d : ℕ) → (equal_of f c d ≡ true) ⊎ Q c d → IsLinked (λ c d. P c d ⊎ Q c d) c d
+    there c d (inl m) = linked_bind P (λ c d. P c d ⊎ Q c d) (λ c d p. stated (inl p)) c d (h.there c d m)
+    there c d (inr m) = stated (inr m)
+
+    back : (c d : ℕ) → P c d ⊎ Q c d → IsLinked (λ c d. (equal_of f c d ≡ true) ⊎ Q c d) c d
+    back c d (inl m) = go (h.back c d (stated m))
+      where
+        go : (c ≡ d) ⊎ (equal_of f c d ≡ true) → IsLinked (λ c d. (equal_of f c d ≡ true) ⊎ Q c d) c d
+        go (inl e) = linked_same (λ c d. (equal_of f c d ≡ true) ⊎ Q c d) c d e
+        go (inr k) = stated (inl k)
+    back c d (inr m) = stated (inr m)
+
+-- nothing more is equal
+pub classes_kept : (f : Facts) (Q : ℕ → ℕ → Type 0) → IsOwn f → ((c d : ℕ) → Q c d → ⊥) → AreClasses f (λ c d. (equal_of f c d ≡ true) ⊎ Q c d)
+classes_kept f Q own none = classes_same f (λ c d. equal_of f c d ≡ true) (classes_start f own) (λ c d. (equal_of f c d ≡ true) ⊎ Q c d) (λ c d k. stated (inl k)) back
+  where
+    back : (c d : ℕ) → (equal_of f c d ≡ true) ⊎ Q c d → IsLinked (λ c d. equal_of f c d ≡ true) c d
+    back c d (inl k) = stated k
+    back c d (inr k) = absurd (none c d k)
+
+-- two columns more are equal
+pub classes_with : (f g : Facts) (a b : ℕ) (Q : ℕ → ℕ → Type 0) → IsOwn f → a < 128 → b < 128 → IsMerged f a b g → ((c d : ℕ) → Q c d → (c ≡ a) × (d ≡ b)) → ((c d : ℕ) → (c ≡ a) × (d ≡ b) → Q c d)
+    → AreClasses g (λ c d. (equal_of f c d ≡ true) ⊎ Q c d)
+classes_with f g a b Q own l m merged only just =
+    classes_same g (λ c d. (equal_of f c d ≡ true) ⊎ ((c ≡ a) × (d ≡ b))) (classes_merged f (λ c d. equal_of f c d ≡ true) (classes_start f own) a b g l m merged)
+    (λ c d. (equal_of f c d ≡ true) ⊎ Q c d) there back
+  where
+    there : (c d : ℕ) → (equal_of f c d ≡ true) ⊎ ((c ≡ a) × (d ≡ b)) → IsLinked (λ c d. (equal_of f c d ≡ true) ⊎ Q c d) c d
+    there c d (inl k) = stated (inl k)
+    there c d (inr k) = stated (inr (just c d k))
+
+    back : (c d : ℕ) → (equal_of f c d ≡ true) ⊎ Q c d → IsLinked (λ c d. (equal_of f c d ≡ true) ⊎ ((c ≡ a) × (d ≡ b))) c d
+    back c d (inl k) = stated (inl k)
+    back c d (inr k) = stated (inr (only c d k))

@@ -1,9 +1,9 @@
 -- The facts of the shared results, found one after the other.
 use Rattle.std.proofs.Common.{◌≡◌, ◌≢◌, ℕ, zero, suc, ◌+◌, ◌<◌, ◌≤◌, Bool, true, false, List, [], ◌∷◌, map, take, set, get_or, length, nat_eq, refl, sym, ap, ap₂, ◌∙◌, subst, arith, Some, slice_get}
-use Rattle.std.specs.Prelude.{IsSomeAnd, IfSome}
+use Rattle.std.specs.Prelude.{IsSomeAnd, IfSome, option_map}
 use Rattle.std.proofs.lemmas.Bool.Decides.{nat_tests}
-use Rattle.std.proofs.lemmas.List.{take-set-le, length-take-le}
-use Rattle.std.proofs.lemmas.Option.{slice_get_within}
+use Rattle.std.proofs.lemmas.List.{take-set-le, take-take, length-take-le}
+use Rattle.std.proofs.lemmas.Option.{slice_get_within, slice_get-map}
 use Rattle.col_sets.specs.Tests.{from_test}
 use Rattle.fd_closure.specs.declared.facts.Facts.{Facts}
 use Rattle.logical_dag.specs.declared.dag.Dag.{Dag}
@@ -15,6 +15,7 @@ use Rattle.logical_dag.specs.Laws.{lent_columns}
 use Rattle.logical_dag.specs.Scripts.{shared_trees, IsWritten, IsBindable}
 use Rattle.logical_dag.specs.Places.{AreSharedFacts}
 use Rattle.logical_dag.proofs.Placed.{some_and, and_some, if_some, shared_columns}
+use Rattle.logical_dag.proofs.Reading.{read_some}
 use Rattle.logical_dag.proofs.SharedFacts.{to_if}
 
 -- the first n of these are the facts of the first n trees, each by those of the earlier ones
@@ -43,13 +44,6 @@ get_first zero xs i l = absurd (omega arith)
 get_first (suc n) [] i l = refl
 get_first (suc n) (y ∷ ys) zero l = refl
 get_first (suc n) (y ∷ ys) (suc i) l = get_first n ys i (omega arith)
-
--- the first of the first
-take_first : {X : Type 0} (i n : ℕ) (xs : List X) → i ≤ n → take i (take n xs) ≡ take i xs
-take_first zero n xs l = refl
-take_first (suc i) zero xs l = absurd (omega arith)
-take_first (suc i) (suc n) [] l = refl
-take_first (suc i) (suc n) (y ∷ ys) l = ap (λ zs. y ∷ zs) (take_first i n ys (omega arith))
 
 -- ---- one more
 
@@ -108,10 +102,8 @@ first_all dag n known e l h = record { each_one = length-take-le n known l ∙ e
         let low : i < n = omega arith in
         let f = some_and (slice_get known i) (AreFactsOf (take i known) t) (if_some (slice_get (shared_trees dag) i) (λ u. IsSomeAnd (slice_get known i) (AreFactsOf (take i known) u)) t k (h i low)) in
         and_some (slice_get (take n known) i) (AreFactsOf (take i (take n known)) t) f.0 (get_first n known i low ∙ f.1)
-        (subst (λ (fs : List Facts). AreFactsOf fs t f.0) (sym (take_first i n known (omega arith))) f.2)
+        (subst (λ (fs : List Facts). AreFactsOf fs t f.0) (sym (take-take i n known (omega arith))) f.2)
 
 -- a tree of the list stands at its place
 pub tree_got : (trees : List Logical) (i : ℕ) (t : Logical) → i < length trees → t ≡ get_or trees i t → slice_get (map tree_of trees) i ≡ Some (tree_of t)
-tree_got [] i t l e = absurd (omega arith)
-tree_got (u ∷ trees) zero t l e = ap (λ v. Some (tree_of v)) (sym e)
-tree_got (u ∷ trees) (suc i) t l e = tree_got trees i t (omega arith) e
+tree_got trees i t l e = slice_get-map tree_of trees i ∙ ap (option_map tree_of) (read_some trees i t l e)

@@ -8,7 +8,7 @@ use Rattle.std.proofs.lemmas.List.Sorted.{IsPermutation-refl, IsPermutation-tran
 use Rattle.scope_value.specs.Order.{eq_by_cmp-decides}
 use Rattle.scope_value.specs.Sorted.{sorted, insert_by, IsInOrder}
 use Rattle.logical_dag.proofs.Bags.{along_permutation, same_permuted}
-use Rattle.logical_dag.proofs.OrderLemmas.{either_way, sorted_permuted, sorted_moved}
+use Rattle.logical_dag.proofs.OrderLemmas.{either_way, all_inserted, all_sorted, sorted_permuted, sorted_moved}
 
 -- what holds of each element of two lists
 all_append : {X : Type 0} (P : X → Type 0) (A B : List X) → AllByRecursion P A → AllByRecursion P B → AllByRecursion P (A ++ B)
@@ -50,16 +50,6 @@ module _ {X : Type 0} {cmp : X → X → Ordering} (total : IsTotalOrder cmp) (e
   least_lower r s [] h k = tt
   least_lower r s (t ∷ A) h k = (upto total r s t h k.0, least_lower r s A h k.1)
 
-  -- a sorted list keeps what is least
-  least_inserted : (r s : X) (A : List X) → is_gt (cmp r s) ≡ false → IsLeast r A → IsLeast r (insert_by cmp s A)
-  least_inserted r s [] h k = (h, tt)
-  least_inserted r s (t ∷ A) h k =
-      elim (is_gt (cmp s t)) as (λ b. IsLeast r (cond b (t ∷ insert_by cmp s A) (s ∷ t ∷ A))) [ true ↦ (k.0, least_inserted r s A h k.1) | false ↦ (h, k) ]
-
-  least_sorted : (r : X) (A : List X) → IsLeast r A → IsLeast r (sorted cmp A)
-  least_sorted r [] h = tt
-  least_sorted r (s ∷ A) h = least_inserted r s (sorted cmp A) h.0 (least_sorted r A h.1)
-
   -- a sorted list is in order
   up_inserted : (r : X) (A : List X) → IsInOrder cmp A → IsInOrder cmp (insert_by cmp r A)
   up_inserted r [] h = (tt, tt)
@@ -67,7 +57,7 @@ module _ {X : Type 0} {cmp : X → X → Ordering} (total : IsTotalOrder cmp) (e
     where
       at : (a : Bool) → is_gt (cmp r s) ≡ a → IsInOrder cmp (insert_by cmp r A) → IsInOrder cmp (insert_by cmp r (s ∷ A))
       at false e k = simp e ((refl, least_lower r s A e h.0), h)
-      at true e k = simp e (least_inserted s r A (either_way total exact r s e) h.0, k)
+      at true e k = simp e (all_inserted (λ t. is_gt (cmp s t) ≡ false) cmp r A (either_way total exact r s e) h.0, k)
 
   pub up_sorted : (A : List X) → IsInOrder cmp (sorted cmp A)
   up_sorted [] = tt
@@ -130,7 +120,7 @@ module _ {X : Type 0} {cmp : X → X → Ordering} (total : IsTotalOrder cmp) (e
   in_front (t ∷ T) R more out up h =
       let P : X → Type 0 = λ s. is_gt (cmp t s) ≡ false in
       let low : IsLeast t more = all_first P more out (all_permuted P _ _ h (all_second P T R up.0)) in
-      ap (insert_by cmp t) (in_front T R more out up.1 h) ∙ inserted_least t _ (all_append P T (sorted cmp more) (all_first P T R up.0) (least_sorted t more low))
+      ap (insert_by cmp t) (in_front T R more out up.1 h) ∙ inserted_least t _ (all_append P T (sorted cmp more) (all_first P T R up.0) (all_sorted P cmp more low))
 
   -- any part of a bag that holds its first elements has the same first elements
   pub first_of_part : (n : ℕ) (A B out rest : List X) → IsPermutation (B ++ out) A → IsPermutation (take n (sorted cmp A) ++ rest) B → take n (sorted cmp B) ≡ take n (sorted cmp A)

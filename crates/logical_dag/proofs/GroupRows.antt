@@ -1,14 +1,13 @@
 -- What stands where in the row of a group.
 use Rattle.std.proofs.Common.{◌≡◌, ◌≢◌, ℕ, zero, suc, Bool, true, false, cond, List, [], ◌∷◌, map, length, get_or, nat_eq, Some, refl, ap, ap₂, ◌∙◌, arith, inl, inr}
 use Rattle.std.specs.List.{All, AllPairs, find}
-use Rattle.std.specs.Option.{option_map, option_map_or, unwrap_or}
+use Rattle.std.specs.Option.{option_map_or}
 use Rattle.std.proofs.Math.ListN.{length-map}
-use Rattle.std.proofs.lemmas.Option.{slice_get-map}
 use Rattle.scope_value.specs.declared.value.Value.{Value}
 use Rattle.scope_value.specs.declared.value.Value.TheVariants.{Null}
-use Rattle.col_sets.specs.Sets.{has, rank, IsColumnSet}
+use Rattle.col_sets.specs.Sets.{has, IsColumnSet}
 use Rattle.col_sets.specs.Tests.{or_left, or_right, to_test, from_test}
-use Rattle.col_sets.specs.Columns.{columns_where-set, has_below, has_union, rank_place}
+use Rattle.col_sets.specs.Columns.{columns_where-set, has_below, has_union}
 use Rattle.structural_props.specs.Rows.{value_at, key_of}
 use Rattle.structural_props.specs.Agree.{agree_of}
 use Rattle.structural_props.specs.WholeRows.{whole_rows}
@@ -17,22 +16,18 @@ use Rattle.logical_dag.specs.declared.args.GroupArgs.{GroupArgs}
 use Rattle.logical_dag.specs.Tree.{group_columns}
 use Rattle.logical_dag.specs.Rows.{Row, row_over, agg_at, group_row}
 use Rattle.logical_dag.specs.Formed.{IsGroup}
+use Rattle.logical_dag.proofs.RowValues.{value_over}
 
 -- functions that are alike on the columns of a list map it alike
 pub map_members : {X : Type 0} (f g : ℕ → X) (s : List ℕ) → ((c : ℕ) → has s c ≡ true → f c ≡ g c) → map f s ≡ map g s
 map_members f g [] h = refl
 map_members f g (c ∷ s) h = ap₂ ◌∷◌ (h c (or_left _ _ (to_test c c refl))) (map_members f g s (λ d k. h d (or_right _ _ k)))
 
--- the value in a column of a row that is made column by column
-pub row_over_at : (cols : List ℕ) (value_in : ℕ → Value) (c : ℕ) → IsColumnSet cols → has cols c ≡ true → value_at cols (row_over cols value_in) c ≡ value_in c
-row_over_at cols value_in c set h =
-    ap (λ o. unwrap_or o Null) (slice_get-map value_in cols (rank cols c) ∙ ap (option_map value_in) (rank_place cols c set h))
-
 -- a row is made of its values
 pub row_over_same : (cols : List ℕ) (row : Row) → IsColumnSet cols → length row ≡ length cols → row_over cols (value_at cols row) ≡ row
 row_over_same cols row set long =
     whole_rows cols set (row_over cols (value_at cols row)) row (length-map cols (value_at cols row)) long
-    (agree_of cols cols (row_over cols (value_at cols row)) row (λ c h. row_over_at cols (value_at cols row) c set h))
+    (agree_of cols cols (row_over cols (value_at cols row)) row (λ c h. value_over cols (value_at cols row) c set h))
 
 -- ---- the aggregate of a column
 
@@ -77,7 +72,7 @@ module _ (args : GroupArgs) (formed : IsGroup args) where
   -- in a column of the key stands the key's value
   pub group_row-key : (value_of : Agg → Value) (k : Row) (c : ℕ) → has args.keys c ≡ true → value_at (group_columns args) (group_row args value_of k) c ≡ value_at args.keys k c
   group_row-key value_of k c h =
-      row_over_at (group_columns args) _ c (group_columns-set args) (key_column c h) ∙ ap (λ b. cond b (value_at args.keys k c) (agg_at value_of args.aggs c)) h
+      value_over (group_columns args) _ c (group_columns-set args) (key_column c h) ∙ ap (λ b. cond b (value_at args.keys k c) (agg_at value_of args.aggs c)) h
 
   -- the key of the row of a group is the group's
   pub group_row-key_of : (value_of : Agg → Value) (k : Row) → length k ≡ length args.keys → key_of (group_columns args) args.keys (group_row args value_of k) ≡ k
@@ -90,7 +85,7 @@ module _ (args : GroupArgs) (formed : IsGroup args) where
       let a = get_or args.aggs i d in
       let there : has (group_columns args) a.id ≡ true =
       has_union args.keys (map (λ b. b.id) args.aggs) a.id (formed.below i d l) (inr (agg_column args.aggs i d l)) in
-      row_over_at (group_columns args) _ a.id (group_columns-set args) there
+      value_over (group_columns args) _ a.id (group_columns-set args) there
       ∙ ap (λ b. cond b (value_at args.keys k a.id) (agg_at value_of args.aggs a.id)) (formed.own i d l) ∙ agg_found value_of args.aggs formed.different i d l
 
 -- values that are alike at each aggregate give one row

@@ -8,18 +8,16 @@ use Rattle.std.proofs.lemmas.List.Elements.{All-contains}
 use Rattle.col_sets.specs.Sets.{has, columns_where, union, rank, IsColumnSet}
 use Rattle.col_sets.specs.Columns.{inside, has-filter, columns_where-set, has_below, has_union}
 use Rattle.col_sets.specs.Tests.{both, or_left, or_right, to_test}
-use Rattle.structural_props.specs.Actions.{In}
 use Rattle.scope_expr.specs.declared.op.PairOp.TheVariants.{And, Eq}
 use Rattle.scope_expr.specs.declared.expr.Expr.{Expr, end_of-Expr, more_of-Expr}
 use Rattle.scope_expr.specs.declared.expr.Expr.TheVariants.{Literal, Col, Neg', Not', Pair'}
 use Rattle.fd_closure.specs.declared.facts.Facts.{Facts}
-use Rattle.logical_dag.specs.declared.agg.Agg.{Agg}
 use Rattle.logical_dag.specs.declared.args.GroupArgs.{GroupArgs}
 use Rattle.logical_dag.specs.declared.logic_op.LogicOp.TheVariants.{Ref, Filter, Project, Join, Group, Process, Reduce, Combine, Partial, Finish}
 use Rattle.logical_dag.specs.Tree.{Expression, leaf, one, two, group_columns, columns_of}
 use Rattle.logical_dag.specs.Formed.{IsGroup, IsOver, IsFormed}
 use Rattle.logical_dag.specs.Facts.{IsLinked, stated, itself, turned, chained, SomeConjunct, Equates, IsColumnAndLiteral, AreColumns, SetsConstant, SetsEqual, is_column, ref_name, item_name, key_name, Renamed, BothRenamed, DependencyRenamed, IsAggregate, AreSameItem, result_columns, IsConstant, Determines, AreEqual}
-use Rattle.logical_dag.proofs.RowValues.{in_list}
+use Rattle.logical_dag.proofs.GroupRows.{key_column, agg_column}
 
 -- a column at a place of a list is in it
 pub has_at : (s : List ℕ) (i c : ℕ) → slice_get s i ≡ Some c → has s c ≡ true
@@ -199,23 +197,20 @@ key_source keys b c h = go (has keys b) h
     go true k = (refl, cc)
     go false k = absurd (cc)
 
+-- and a column of the key keeps its name
+pub key_named : (keys : List ℕ) (c : ℕ) → has keys c ≡ true → key_name keys c ≡ Some c
+key_named keys c h = ap (λ b. if b then Some c else None) h
+
 -- columns of aggregates are among the columns of a group
 pub aggregate_column : (args : GroupArgs) (c : ℕ) → IsGroup args → IsAggregate args c → has (group_columns args) c ≡ true
 aggregate_column args c group h =
-    let low : c < 128 = subst (λ (i : ℕ). i < 128) h.4 (All-contains (λ a. a.id < 128) args.aggs h.1 group.below (h.0, h.2, h.3)) in
-    has_union args.keys (map (λ a. a.id) args.aggs) c low (inr (among args.aggs (in_list args.aggs h.1 (h.0, h.2, h.3))))
-  where
-    among : (aggs : List Agg) → In h.1 aggs → has (map (λ a. a.id) aggs) c ≡ true
-    among [] m = absurd m
-    among (a ∷ aggs) (inl e) = or_left _ _ (to_test a.id c (ap (λ (g : Agg). g.id) (sym e) ∙ h.4))
-    among (a ∷ aggs) (inr m) = or_right _ _ (among aggs m)
+    let there : has (map (λ a. a.id) args.aggs) h.1.id ≡ true = All-contains (λ a. has (map (λ b. b.id) args.aggs) a.id ≡ true) args.aggs h.1 (agg_column args.aggs) (h.0, h.2, h.3) in
+    let low : h.1.id < 128 = All-contains (λ a. a.id < 128) args.aggs h.1 group.below (h.0, h.2, h.3) in
+    subst (λ (i : ℕ). has (group_columns args) i ≡ true) h.4 (has_union args.keys (map (λ a. a.id) args.aggs) h.1.id low (inr there))
 
--- and so are those of the key
-pub key_column : (args : GroupArgs) (b c : ℕ) → IsGroup args → key_name args.keys b ≡ Some c → has (group_columns args) c ≡ true
-key_column args b c group h =
-    let k = key_source args.keys b c h in
-    let there : has args.keys c ≡ true = subst (λ (i : ℕ). has args.keys i ≡ true) k.1 k.0 in
-    has_union args.keys (map (λ a. a.id) args.aggs) c (has_below args.keys group.key_set c there) (inl there)
+-- and so is what keeps its name
+pub name_column : (args : GroupArgs) (b c : ℕ) → IsGroup args → key_name args.keys b ≡ Some c → has (group_columns args) c ≡ true
+name_column args b c group h = let k = key_source args.keys b c h in key_column args group c (subst (λ (i : ℕ). has args.keys i ≡ true) k.1 k.0)
 
 module _ (cols : List ℕ) where
   -- facts that are renamed speak of new columns
@@ -239,7 +234,7 @@ group_about : (args : GroupArgs) → IsGroup args → (C : ℕ → Type 0) (D : 
 group_about args group C D E = record { constants = constants; determined = determined; by = by; equal = of_key.equal }
   where
     of_key : AreAbout (Renamed (key_name args.keys) C) (DependencyRenamed (key_name args.keys) D) (IsLinked (BothRenamed (key_name args.keys) E)) (group_columns args)
-    of_key = renamed_about (group_columns args) (key_name args.keys) C D E (λ b c h. key_column args b c group h)
+    of_key = renamed_about (group_columns args) (key_name args.keys) C D E (λ b c h. name_column args b c group h)
 
     constants : (c : ℕ) → Renamed (key_name args.keys) C c ⊎ ((args.keys ≡ []) × IsAggregate args c) → has (group_columns args) c ≡ true
     constants c (inl h) = of_key.constants c h
@@ -251,9 +246,7 @@ group_about args group C D E = record { constants = constants; determined = dete
 
     by : (s : List ℕ) (c d : ℕ) → DependencyRenamed (key_name args.keys) D s c ⊎ ((args.keys ≢ []) × (s ≡ args.keys) × IsAggregate args c) → has s d ≡ true → has (group_columns args) d ≡ true
     by s c d (inl h) k = of_key.by s c d h k
-    by s c d (inr h) k =
-        let there : has args.keys d ≡ true = subst (λ (r : List ℕ). has r d ≡ true) h.1 k in
-        has_union args.keys (map (λ a. a.id) args.aggs) d (has_below args.keys group.key_set d there) (inl there)
+    by s c d (inr h) k = key_column args group d (subst (λ (r : List ℕ). has r d ≡ true) h.1 k)
 
 module _ (shared : List Facts) where
   abbrev About : Expression → Type 0
@@ -332,7 +325,7 @@ module _ (shared : List Facts) where
   known_about results (one (Group args) t) h = group_about args h.1.0 (IsConstant shared t) (Determines shared t) (AreEqual shared t)
   known_about results (one (Finish args) t) h = group_about args h.1 (IsConstant shared t) (Determines shared t) (AreEqual shared t)
   known_about results (one (Partial args) t) h =
-      renamed_about (group_columns args) (key_name args.keys) (IsConstant shared t) (Determines shared t) (AreEqual shared t) (λ b c k. key_column args b c h.1.0 k)
+      renamed_about (group_columns args) (key_name args.keys) (IsConstant shared t) (Determines shared t) (AreEqual shared t) (λ b c k. name_column args b c h.1.0 k)
   known_about results (one (Process call) t) h = nothing_about call.cols
   known_about results (one (Reduce call on presort) t) h = nothing_about call.cols
   known_about results (one op t) h = known_about results t h.0

@@ -37,13 +37,14 @@ use Rattle.logical_dag.specs.declared.args.TopArgs.{TopArgs}
 use Rattle.logical_dag.specs.declared.logic_op.LogicOp.{LogicOp}
 use Rattle.logical_dag.specs.declared.logic_op.LogicOp.TheVariants.{Ref, Filter, Project, Join, Group, Process, Reduce, Combine, Top, Partial, Finish, LocalTop, LastTop}
 use Rattle.logical_dag.specs.Tree.{Expression, leaf, one, two, group_columns, columns_of}
-use Rattle.logical_dag.specs.Rows.{Row, Bag, projected, agree_on, merged, joined, with_key, keys_among, in_order, first_rows, group_row, rows_of_keys, group_keys, partial_rows, whole_value, partial_value, finished_value, agg_at}
+use Rattle.logical_dag.specs.Rows.{Row, Bag, projected, agree_on, merged, joined, with_key, keys_among, in_order, first_rows, group_row, rows_of_keys, group_keys, partial_rows, whole_value, partial_value, finished_value}
 use Rattle.logical_dag.specs.Meaning.{Sources, bag_at, StandsFor}
 use Rattle.logical_dag.specs.Formed.{IsGroup, IsJoin, IsFormed}
 use Rattle.logical_dag.specs.Laws.{LentHold, HoldOf, lent_columns}
 use Rattle.logical_dag.specs.Known.{IsLentSet}
 use Rattle.logical_dag.specs.Facts.{IsLinked, stated, itself, turned, chained, IsColumnAndLiteral, AreColumns, SetsConstant, SetsEqual, is_column, is_literal, ref_name, item_name, key_name, Renamed, BothRenamed, IsRenamedSet, DependencyRenamed, IsAggregate, AreSameItem, IsConstant, Determines, AreEqual, AreFactsOf}
 use Rattle.logical_dag.proofs.RowValues.{in_list, list_in, in_permuted, in_sorted, in_first, in_map, in_flat_map, flat_map_in, in_distinct, value_over}
+use Rattle.logical_dag.proofs.GroupRows.{group_row-key}
 use Rattle.logical_dag.proofs.KnownColumns.{rank_at, columns_set, AreAbout, known_about, from_conjunct, ref_source, key_source}
 
 -- facts of each kind hold of rows over these columns
@@ -265,16 +266,9 @@ one_group_key cols [] A k e (inr m) = absurd m
 one_group_key cols (d ∷ keys) A k e m = absurd (cc)
 
 module _ (args : GroupArgs) (group : IsGroup args) (cols : List ℕ) where
-  -- the row of a group has the values of its key
-  key_at : (value_of : Agg → Value) (k : Row) (c : ℕ) → has args.keys c ≡ true → value_at (group_columns args) (group_row args value_of k) c ≡ value_at args.keys k c
-  key_at value_of k c h =
-      value_over (group_columns args) (λ c. if has args.keys c then value_at args.keys k c else agg_at value_of args.aggs c) c (columns_where-set _)
-      (has_union args.keys (map (λ a. a.id) args.aggs) c (has_below args.keys group.key_set c h) (inl h))
-      ∙ ap (λ b. if b then value_at args.keys k c else agg_at value_of args.aggs c) h
-
-  -- and so those of a row that has the key
+  -- the row of a group has the values of a row that has its key
   row_at : (value_of : Agg → Value) (x : Row) (c : ℕ) → has args.keys c ≡ true → value_at (group_columns args) (group_row args value_of (key_of cols args.keys x)) c ≡ value_at cols x c
-  row_at value_of x c h = key_at value_of (key_of cols args.keys x) c h ∙ value_over args.keys (value_at cols x) c group.key_set h
+  row_at value_of x c h = group_row-key args group value_of (key_of cols args.keys x) c h ∙ value_over args.keys (value_at cols x) c group.key_set h
 
   -- by the names of the key
   named_at : (value_of : Agg → Value) (x : Row) (b c : ℕ) → key_name args.keys b ≡ Some c
@@ -320,11 +314,11 @@ module _ (args : GroupArgs) (group : IsGroup args) (cols : List ℕ) where
             let q = source y n in
             let each : (c : ℕ) → has args.keys c ≡ true → value_at args.keys o.0 c ≡ value_at args.keys q.0 c =
             λ c t.
-            sym (key_at (λ a. value_of a (with_key cols args.keys o.0 A)) o.0 c t)
+            sym (group_row-key args group (λ a. value_of a (with_key cols args.keys o.0 A)) o.0 c t)
             ∙ ap (λ r. value_at (group_columns args) r c) (sym o.2)
             ∙ same c t
             ∙ ap (λ r. value_at (group_columns args) r c) q.2
-            ∙ key_at (λ a. value_of a (with_key cols args.keys q.0 A)) q.0 c t
+            ∙ group_row-key args group (λ a. value_of a (with_key cols args.keys q.0 A)) q.0 c t
             in
             let keys : o.0 ≡ q.0 =
             whole_rows args.keys group.key_set o.0 q.0 (group_key_over cols args.keys A o.0 o.1) (group_key_over cols args.keys A q.0 q.1) (agree_of args.keys args.keys o.0 q.0 each)

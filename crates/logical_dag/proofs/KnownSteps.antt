@@ -1,9 +1,9 @@
 -- The facts of each kind of node, of those below it.
-use Rattle.std.proofs.Common.{◌≡◌, ◌≢◌, ℕ, ◌<◌, ◌≤◌, Bool, true, false, ◌&&◌, List, [], ◌∷◌, length, refl, sym, ap, ◌∙◌, subst, arith, ◌⊎◌, inl, inr, nat_eq, nat_lt, Option, Some, None, slice_get, slice_index_or}
+use Rattle.std.proofs.Common.{◌≡◌, ◌≢◌, ℕ, ◌<◌, ◌≤◌, Bool, true, false, ◌&&◌, List, [], length, refl, sym, ap, ◌∙◌, subst, arith, ◌⊎◌, inl, inr, nat_eq, nat_lt, Option, Some, None, slice_get, slice_index_or}
 use Rattle.std.specs.Prelude.{Any, All, Contains, IsSomeAnd, position}
 use Rattle.std.specs.Option.{option_and_then}
 use Rattle.std.proofs.lemmas.Bool.Decides.{nat_tests}
-use Rattle.std.proofs.lemmas.List.{get_or_past}
+use Rattle.std.proofs.lemmas.List.{get_or_past, nil_from_length}
 use Rattle.std.proofs.lemmas.Option.{get_or_from_slice_get, slice_get_within}
 use Rattle.scope_expr.specs.declared.expr.Expr.{Expr}
 use Rattle.scope_expr.specs.declared.expr.Expr.TheVariants.{Literal, Col, Neg', Not', Pair'}
@@ -11,7 +11,7 @@ use Rattle.col_sets.specs.Sets.{has, union, rank, count, IsColumnSet}
 use Rattle.col_sets.specs.Columns.{has_below, has_union, union_has, rank_place}
 use Rattle.col_sets.specs.Tests.{both, from_test}
 use Rattle.fd_closure.specs.declared.facts.Facts.{Facts}
-use Rattle.fd_closure.specs.Known.{by_of, equal_of}
+use Rattle.fd_closure.specs.Known.{equal_of}
 use Rattle.logical_dag.specs.declared.agg.Agg.{Agg}
 use Rattle.logical_dag.specs.declared.args.GroupArgs.{GroupArgs}
 use Rattle.logical_dag.specs.declared.naming.Names.{Names}
@@ -19,9 +19,11 @@ use Rattle.logical_dag.specs.Tree.{group_columns}
 use Rattle.logical_dag.specs.Formed.{IsGroup, IsOver}
 use Rattle.logical_dag.specs.Facts.{IsLinked, stated, Renamed, BothRenamed, DependencyRenamed, is_column, is_literal, ref_name, item_name, key_name, AreSameItem, IsAggregate}
 use Rattle.logical_dag.specs.Known.{name_of, IsNaming, IsDependency, AreClasses, AreDependencies, AreConstants, CarriedConstants, CarriedDependencies, CarriedEqualities, AreCarried, IsItem, AreRenamed, AreProjected, AreGrouped, AreJoined}
-use Rattle.logical_dag.proofs.Classes.{linked_same, classes_same}
+use Rattle.logical_dag.proofs.Classes.{linked_same, classes_same, classes_moved, classes_chain}
 use Rattle.logical_dag.proofs.KnownColumns.{has_at, rank_at, ref_source, key_source}
-use Rattle.logical_dag.proofs.Stating.{constants_same, constants_chain, classes_moved, classes_chain, dependencies_same, item_one, first_place}
+use Rattle.logical_dag.proofs.Constants.{constants_same, constants_chain, constants_moved}
+use Rattle.logical_dag.proofs.Dependencies.{dependencies_same, dependencies_moved, dependencies_chain}
+use Rattle.logical_dag.proofs.ItemFacts.{item_one, first_place}
 
 -- facts that are carried into rows of which nothing is known
 pub renamed_plain : (from : Facts) (name : ℕ → Option ℕ) (cols : List ℕ) (into f : Facts) → into.columns ≡ cols → into.constants ≡ [] → into.determined ≡ [] → ((c d : ℕ) → equal_of into c d ≡ (nat_lt c 128 && nat_eq c d))
@@ -116,23 +118,6 @@ item_over below items i b over h = go (slice_get items i) refl h
 pub item_low : (below : List ℕ) (items : List Expr) (cols : List ℕ) → IsColumnSet below → All (IsOver below) items → (b c : ℕ) → item_name items cols b ≡ Some c → b < 128
 item_low below items cols set over b c e = let k = item_source items cols b c e in has_below below set b (item_over below items k.0 b over k.2)
 
--- facts of the same dependencies
-pub dependencies_moved : (f g : Facts) (D : List ℕ → ℕ → Type 0) → g.determined ≡ f.determined → g.by ≡ f.by → AreDependencies f D → AreDependencies g D
-dependencies_moved f g D e i h = record { stated = given; all = all }
-  where
-    same : (c : ℕ) → by_of g c ≡ by_of f c
-    same c = ap (λ (l : List (List ℕ)). slice_index_or l c []) i
-
-    given : (c : ℕ) → c < 128 → has g.determined c ≡ true → D (by_of g c) c
-    given c l m = subst (λ (s : List ℕ). D s c) (sym (same c)) (h.stated c l (subst (λ (s : List ℕ). has s c ≡ true) e m))
-
-    all : (s : List ℕ) (c : ℕ) → D s c → (has g.determined c ≡ true) × ((d : ℕ) → has s d ≡ has (by_of g c) d)
-    all s c m = let k = h.all s c m in (subst (λ (s : List ℕ). has s c ≡ true) (sym e) k.0, λ d. k.1 d ∙ ap (λ (r : List ℕ). has r d) (sym (same c)))
-
--- facts of the same constants
-pub constants_moved : (f g : Facts) (C : ℕ → Type 0) → g.constants ≡ f.constants → AreConstants f C → AreConstants g C
-constants_moved f g C e h c l = (λ m. (h c l).0 (subst (λ (s : List ℕ). has s c ≡ true) e m), λ m. subst (λ (s : List ℕ). has s c ≡ true) (sym e) ((h c l).1 m))
-
 -- the facts of a projection: carried, then its literals, then its items that are one column
 pub projected_all : (items : List Expr) (cols : List ℕ) (from f g h : Facts) → AreRenamed from (item_name items cols) cols f → g ≡ record f { constants = g.constants } → h ≡ record g { class = h.class }
     → AreConstants g (λ c. (has f.constants c ≡ true) ⊎ ((i : ℕ) × (slice_get cols i ≡ Some c) × IsSomeAnd (slice_get items i) (λ e. is_literal e ≡ true)))
@@ -143,11 +128,6 @@ projected_all items cols from f g h plain i j literals same = record {
   dependencies = dependencies_moved f h (DependencyRenamed (item_name items cols) (IsDependency from)) (ap (λ (k : Facts). k.determined) j ∙ ap (λ (k : Facts). k.determined) i) (ap (λ (k : Facts). k.by) j ∙ ap (λ (k : Facts). k.by) i) plain.dependencies;
   classes = classes_chain g h (BothRenamed (item_name items cols) (λ a b. equal_of from a b ≡ true)) (AreSameItem items cols) (classes_moved f g (BothRenamed (item_name items cols) (λ a b. equal_of from a b ≡ true)) (ap (λ (k : Facts). k.class) i) plain.classes) same;
 }
-
--- a set without columns is empty
-pub none_counted : (s : List ℕ) → count s ≡ 0 → s ≡ []
-none_counted [] h = refl
-none_counted (c ∷ s) h = absurd (omega arith)
 
 -- the key's facts know no dependency of an aggregate
 pub key_free : (args : GroupArgs) (from f : Facts) → IsGroup args → AreRenamed from (key_name args.keys) (group_columns args) f → All (λ a. has f.determined a.id ≡ false) args.aggs
@@ -174,7 +154,7 @@ grouped_none args from f g none h i constants = record {
 }
   where
     empty : args.keys ≡ []
-    empty = none_counted args.keys none
+    empty = nil_from_length args.keys none
 
     there : (c : ℕ) → Renamed (key_name args.keys) (λ b. has from.constants b ≡ true) c ⊎ Any (λ a. a.id ≡ c) args.aggs → Renamed (key_name args.keys) (λ b. has from.constants b ≡ true) c ⊎ ((args.keys ≡ []) × IsAggregate args c)
     there c (inl m) = inl m
@@ -194,7 +174,8 @@ pub grouped_some : (args : GroupArgs) (from f g : Facts) → (count args.keys �
 grouped_some args from f g some h i depends group = record {
   columns = ap (λ (k : Facts). k.columns) i ∙ h.columns;
   constants = constants_same g (Renamed (key_name args.keys) (λ b. has from.constants b ≡ true)) _ (constants_moved f g _ (ap (λ (k : Facts). k.constants) i) h.constants) (λ c m. inl m) constant;
-  dependencies = record { stated = given; all = all };
+  dependencies = dependencies_same g _ _
+      (dependencies_chain f g (DependencyRenamed (key_name args.keys) (IsDependency from)) (λ s c. (s ≡ args.keys) × IsAggregate args c) low h.dependencies depends) forth back;
   classes = classes_moved f g _ (ap (λ (k : Facts). k.class) i) h.classes;
 }
   where
@@ -205,22 +186,18 @@ grouped_some args from f g some h i depends group = record {
     constant c (inl m) = m
     constant c (inr m) = absurd (keyed m.0)
 
-    given : (c : ℕ) → c < 128 → has g.determined c ≡ true → DependencyRenamed (key_name args.keys) (IsDependency from) (by_of g c) c ⊎ ((args.keys ≢ []) × (by_of g c ≡ args.keys) × IsAggregate args c)
-    given c l m = go (depends.stated c l m)
-      where
-        go : IsDependency f (by_of g c) c ⊎ ((by_of g c ≡ args.keys) × Any (λ a. a.id ≡ c) args.aggs) → DependencyRenamed (key_name args.keys) (IsDependency from) (by_of g c) c ⊎ ((args.keys ≢ []) × (by_of g c ≡ args.keys) × IsAggregate args c)
-        go (inl k) = inl (subst (λ (s : List ℕ). DependencyRenamed (key_name args.keys) (IsDependency from) s c) (sym k.2) (h.dependencies.stated c k.0 k.1))
-        go (inr k) = inr (keyed, k.0, k.1)
-
     low : (s : List ℕ) (c : ℕ) → DependencyRenamed (key_name args.keys) (IsDependency from) s c → c < 128
     low s c m = (key_naming args.keys group.key_set).below m.1 c m.3
 
-    all : (s : List ℕ) (c : ℕ) → DependencyRenamed (key_name args.keys) (IsDependency from) s c ⊎ ((args.keys ≢ []) × (s ≡ args.keys) × IsAggregate args c) → (has g.determined c ≡ true) × ((d : ℕ) → has s d ≡ has (by_of g c) d)
-    all s c (inl m) =
-        let p = h.dependencies.all s c m in
-        let q = depends.all (by_of f c) c (inl (low s c m, p.0, refl)) in
-        (q.0, λ d. p.1 d ∙ q.1 d)
-    all s c (inr m) = depends.all s c (inr (m.1, m.2))
+    forth : (s : List ℕ) (c : ℕ) → DependencyRenamed (key_name args.keys) (IsDependency from) s c ⊎ ((s ≡ args.keys) × IsAggregate args c)
+        → DependencyRenamed (key_name args.keys) (IsDependency from) s c ⊎ ((args.keys ≢ []) × (s ≡ args.keys) × IsAggregate args c)
+    forth s c (inl m) = inl m
+    forth s c (inr m) = inr (keyed, m.0, m.1)
+
+    back : (s : List ℕ) (c : ℕ) → DependencyRenamed (key_name args.keys) (IsDependency from) s c ⊎ ((args.keys ≢ []) × (s ≡ args.keys) × IsAggregate args c)
+        → DependencyRenamed (key_name args.keys) (IsDependency from) s c ⊎ ((s ≡ args.keys) × IsAggregate args c)
+    back s c (inl m) = inl m
+    back s c (inr m) = inr (m.1, m.2)
 
 -- the facts of a join: the constants and dependencies of both sides, then the equalities, then its pairs
 pub joined_all : (on : List (ℕ × ℕ)) (left right f g h : Facts) (cols constants : List ℕ) → cols ≡ union left.columns right.columns → constants ≡ union left.constants right.constants

@@ -1,5 +1,5 @@
 -- The facts of each kind of node are those that its table says.
-use Rattle.std.proofs.Common.{◌≡◌, ◌≢◌, ℕ, ◌<◌, Bool, true, false, if◌then◌else◌, ◌&&◌, List, [], refl, sym, ap, ap₂, ◌∙◌, subst, arith, ◌⊎◌, inl, inr, nat_eq, nat_lt, Option, Some, None, slice_get}
+use Rattle.std.proofs.Common.{◌≡◌, ◌≢◌, ℕ, ◌<◌, Bool, true, false, ◌&&◌, List, [], refl, sym, ap, ap₂, ◌∙◌, subst, arith, ◌⊎◌, inl, inr, nat_eq, nat_lt, Option, Some, None, slice_get}
 use Rattle.std.specs.Prelude.{◌↔◌, All, Contains, IfSome, IsSomeAnd, option_map}
 use Rattle.std.specs.Option.{option_map_or}
 use Rattle.col_sets.specs.Sets.{has, union, count, IsColumnSet}
@@ -16,37 +16,20 @@ use Rattle.logical_dag.specs.declared.logic_op.LogicOp.{LogicOp}
 use Rattle.logical_dag.specs.declared.logic_op.LogicOp.TheVariants.{Scan, Ref, Filter, Project, Join, Group, Process, Reduce, Combine, Partial, Finish}
 use Rattle.logical_dag.specs.Tree.{Expression, leaf, one, two, columns_of, group_columns}
 use Rattle.logical_dag.specs.Formed.{IsGroup, IsJoin, IsOver, IsFormed}
-use Rattle.logical_dag.specs.Facts.{IsLinked, stated, itself, Renamed, BothRenamed, DependencyRenamed, IsAggregate, AreSameItem, SetsConstant, SetsEqual, ref_name, item_name, key_name, is_literal, IsConstant, Determines, AreEqual, AreFactsOf}
+use Rattle.logical_dag.specs.Facts.{IsLinked, stated, Renamed, BothRenamed, DependencyRenamed, IsAggregate, AreSameItem, SetsConstant, SetsEqual, ref_name, item_name, key_name, is_literal, IsConstant, Determines, AreEqual, AreFactsOf}
 use Rattle.logical_dag.specs.Laws.{lent_columns}
 use Rattle.std.proofs.lemmas.Option.{slice_get-map}
 use Rattle.logical_dag.specs.Known.{IsLentSet, IsDependency, IsOwn, AreBelow, AreClasses, AreDependencies, AreConstants, CarriedEqualities, AreRenamed, AreProjected, AreGrouped, AreJoined, AreApart, IsJoinApart}
 use Rattle.logical_dag.proofs.Classes.{linked_same, classes_same, classes_linked}
-use Rattle.logical_dag.proofs.KnownColumns.{columns_set, AreAbout, known_about, key_source, equal_over}
-use Rattle.logical_dag.proofs.Stating.{constants_same, dependencies_same}
-use Rattle.logical_dag.proofs.KnownSteps.{dependencies_moved, key_low, item_low, ref_low}
+use Rattle.logical_dag.proofs.KnownColumns.{columns_set, AreAbout, known_about, key_source, key_named, equal_over}
+use Rattle.logical_dag.proofs.Links.{equal_itself}
+use Rattle.logical_dag.proofs.Constants.{constants_same, constants_same_low}
+use Rattle.logical_dag.proofs.Dependencies.{dependencies_same, dependencies_moved}
+use Rattle.logical_dag.proofs.KnownSteps.{key_low, item_low, ref_low}
 
--- a column is equal to itself
-known_itself : (shared : List Facts) (t : Expression) (c : ℕ) → AreEqual shared t c c
-known_itself shared (leaf (Ref i cols)) c = itself
-known_itself shared (leaf op) c = refl
-known_itself shared (one (Filter e) t) c = itself
-known_itself shared (one (Project items cols) t) c = itself
-known_itself shared (one (Group args) t) c = itself
-known_itself shared (one (Finish args) t) c = itself
-known_itself shared (one (Partial args) t) c = itself
-known_itself shared (one (Process call) t) c = refl
-known_itself shared (one (Reduce call on presort) t) c = refl
-known_itself shared (one op t) c = known_itself shared t c
-known_itself shared (two (Join on) t u) c = itself
-known_itself shared (two op t u) c = refl
-
--- the same by the facts
+-- by the facts of an expression each column is equal to itself
 pub facts_own : (shared : List Facts) (t : Expression) (f : Facts) → AreFactsOf shared t f → IsOwn f
-facts_own shared t f h c l = (h.equal c c l l).1 (known_itself shared t c)
-
--- constants that are said otherwise of the columns below 128
-constants_same_low : (f : Facts) (C D : ℕ → Type 0) → AreConstants f C → ((c : ℕ) → c < 128 → C c → D c) → ((c : ℕ) → c < 128 → D c → C c) → AreConstants f D
-constants_same_low f C D h there back c l = (λ m. there c l ((h c l).0 m), λ m. (h c l).1 (back c l m))
+facts_own shared t f h c l = (h.equal c c l l).1 (equal_itself shared t c)
 
 module _ (shared : List Facts) (t : Expression) (f : Facts) (results : List (List ℕ)) (formed : IsFormed results t) (h : AreFactsOf shared t f) where
   -- columns of which the expression's facts speak are below 128
@@ -309,7 +292,7 @@ module _ (shared : List Facts) (results : List (List ℕ)) (t u : Expression) (l
           (q.0, λ d. p.1 d ∙ q.1 d)
 
       named : (c : ℕ) → has (columns_of u) c ≡ true → key_name right.columns c ≡ Some c
-      named c m = ap (λ b. if b then Some c else None) (ap (λ (s : List ℕ). has s c) k.columns ∙ m)
+      named c m = key_named right.columns c (ap (λ (s : List ℕ). has s c) k.columns ∙ m)
 
       equal_forth : (c d : ℕ) → CarriedEqualities right (key_name right.columns) left c d ⊎ Contains on.items (c, d) → AreEqual shared t c d ⊎ (AreEqual shared u c d ⊎ Contains on.items (c, d))
       equal_forth c d (inl (inl m)) = inl (equal_there shared t left results formed h c d m)

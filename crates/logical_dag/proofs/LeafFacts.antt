@@ -1,9 +1,8 @@
 -- Facts to which those of one leaf were added.
-use Rattle.std.proofs.Common.{◌≡◌, ℕ, ◌<◌, Bool, true, false, List, [], ◌∷◌, refl, sym, ap, ◌∙◌, subst, ◌⊎◌, inl, inr, Some, None}
-use Rattle.std.specs.Prelude.{Contains, if◌then◌else◌}
+use Rattle.std.proofs.Common.{◌≡◌, ℕ, ◌<◌, Bool, true, false, List, [], ◌∷◌, refl, sym, ap, ◌∙◌, subst, ◌⊎◌, inl, inr, Some}
+use Rattle.std.specs.Prelude.{Contains}
 use Rattle.col_sets.specs.Sets.{has, union}
-use Rattle.col_sets.specs.Columns.{columns_where-set, sets_same, has_below, union_has, has_union}
-use Rattle.col_sets.specs.Tests.{same_tests}
+use Rattle.col_sets.specs.Columns.{has_below}
 use Rattle.fd_closure.specs.declared.facts.Facts.{Facts}
 use Rattle.fd_closure.specs.Known.{by_of, equal_of}
 use Rattle.fd_closure.specs.Laws.{equal_parts}
@@ -15,11 +14,8 @@ use Rattle.logical_dag.specs.BlockFacts.{SomeLeaf, columns_of_all}
 use Rattle.logical_dag.specs.Gathered.{IsOverColumns, IsApartFrom, AreAdded}
 use Rattle.logical_dag.proofs.RowValues.{in_list}
 use Rattle.logical_dag.proofs.Classes.{linked_same, classes_same}
-use Rattle.logical_dag.proofs.KnownColumns.{columns_set, key_source, known_about}
-
--- a column of the key keeps its name
-key_named : (keys : List ℕ) (c : ℕ) → has keys c ≡ true → key_name keys c ≡ Some c
-key_named keys c h = ap (λ b. if b then Some c else None) h
+use Rattle.logical_dag.proofs.KnownColumns.{columns_set, key_source, key_named, known_about}
+use Rattle.logical_dag.proofs.Leaves.{union_none}
 
 module _ (shared : List Facts) (results : List (List ℕ)) (t : Expression) (formed : IsFormed results t) (into facts f : Facts) (known : AreFactsOf shared t facts)
     (joined : AreJoined [] into facts f) where
@@ -28,12 +24,7 @@ module _ (shared : List Facts) (results : List (List ℕ)) (t : Expression) (for
   kept c h = key_named facts.columns c (subst (λ (s : List ℕ). has s c ≡ true) (sym known.columns) h)
 
   one_column : union into.columns facts.columns ≡ union into.columns (columns_of_all (t ∷ []))
-  one_column = ap (union into.columns) (known.columns ∙ sets_same (columns_of t) (columns_of_all (t ∷ [])) (columns_set results t formed) (columns_where-set _)
-      (λ c l. same_tests _ _ (λ h. has_union (columns_of t) [] c l (inl h)) (λ h. one c (union_has (columns_of t) [] c h))))
-    where
-      one : (c : ℕ) → (has (columns_of t) c ≡ true) ⊎ (has [] c ≡ true) → has (columns_of t) c ≡ true
-      one c (inl h) = h
-      one c (inr h) = absurd (cc)
+  one_column = ap (union into.columns) (known.columns ∙ sym (union_none (columns_of t) (columns_set results t formed)))
 
   one_constants : AreConstants f (λ c. (has into.constants c ≡ true) ⊎ SomeLeaf (λ u. IsConstant shared u c) (t ∷ []))
   one_constants c l = (λ h. forth ((joined.constants c l).0 h), λ h. (joined.constants c l).1 (back h))

@@ -1,14 +1,17 @@
 -- Lists of leaves: what some leaf has, what each has, and leaves that are apart.
 use Rattle.std.proofs.Common.{◌≡◌, ℕ, zero, suc, ◌+◌, ◌/◌, ◌%◌, ◌<◌, ◌≤◌, Bool, true, false, cond, List, [], ◌∷◌, ◌++◌, count_by, nat_eq, refl, ap, subst, arith, ◌⊎◌, inl, inr, IsPermutation}
 use Rattle.std.proofs.lemmas.List.Sorted.{Contains-permutation}
-use Rattle.col_sets.specs.Sets.{has, IsColumnSet}
-use Rattle.col_sets.specs.Columns.{columns_where-set, columns_none, has_below, union_has, has_union}
+use Rattle.col_sets.specs.Sets.{has, union, IsColumnSet}
+use Rattle.col_sets.specs.Columns.{columns_where-set, columns_none, sets_same, has_below, union_has, has_union}
+use Rattle.col_sets.specs.Tests.{same_tests}
 use Rattle.structural_props.specs.Actions.{In}
 use Rattle.structural_props.specs.KeptLemmas.{in_append, in_left, in_right}
 use Rattle.logical_dag.specs.Tree.{Expression, columns_of}
 use Rattle.logical_dag.specs.BlockFacts.{SomeLeaf, columns_of_all}
 use Rattle.logical_dag.specs.Places.{chosen}
+use Rattle.logical_dag.specs.Formed.{IsFormed}
 use Rattle.logical_dag.proofs.Aggregates.{count-cons, count-append, count_permuted}
+use Rattle.logical_dag.proofs.KnownColumns.{columns_set}
 use Rattle.logical_dag.proofs.RowValues.{in_list, list_in}
 
 -- ---- some leaf
@@ -79,6 +82,18 @@ module _ (P : Expression → Type 0) where
 -- the columns of a leaf are a set
 abbrev pub HasSet : Expression → Type 0
 HasSet t = IsColumnSet (columns_of t)
+
+-- those of formed leaves are
+pub formed_sets : (results : List (List ℕ)) (leaves : List Expression) → EachLeaf (IsFormed results) leaves → EachLeaf HasSet leaves
+formed_sets results leaves h t m = columns_set results t (h t m)
+
+-- with no columns more a set is the same
+pub union_none : (s : List ℕ) → IsColumnSet s → union s [] ≡ s
+union_none s set = sets_same (union s []) s (columns_where-set _) set (λ c l. same_tests _ _ (λ h. one c (union_has s [] c h)) (λ h. has_union s [] c l (inl h)))
+  where
+    one : (c : ℕ) → (has s c ≡ true) ⊎ (has [] c ≡ true) → has s c ≡ true
+    one c (inl h) = h
+    one c (inr h) = absurd (cc)
 
 -- the column is one of the leaf's
 abbrev pub HasColumn : ℕ → Expression → Type 0

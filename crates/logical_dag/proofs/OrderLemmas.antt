@@ -1,7 +1,8 @@
--- The sorted list is a function of the bag.
+-- The sorted list is a function of the bag, and has its elements.
 use Rattle.std.proofs.Common.{◌≡◌, Bool, true, false, cond, List, [], ◌∷◌, refl, ap, ap₂, ◌∙◌, IsPermutation, Ordering, Less, Equal, Greater}
 use Rattle.std.specs.Ordering.{is_gt, ordering_reverse}
 use Rattle.std.specs.Cmp.{IsTotalOrder}
+use Rattle.std.specs.List.{AllByRecursion}
 use Rattle.std.proofs.lemmas.Cmp.{upto}
 use Rattle.std.proofs.lemmas.List.Sorted.{IsPermutation-refl, IsPermutation-trans, IsPermutation-cons, IsPermutation-middle}
 use Rattle.scope_value.specs.Sorted.{sorted, insert_by}
@@ -18,6 +19,16 @@ inserted_same cmp x (y ∷ ys) =
 pub sorted_moved : {X : Type 0} (cmp : X → X → Ordering) (xs : List X) → IsPermutation (sorted cmp xs) xs
 sorted_moved cmp [] = IsPermutation-refl []
 sorted_moved cmp (x ∷ xs) = IsPermutation-trans _ _ _ (inserted_same cmp x (sorted cmp xs)) (IsPermutation-cons x _ _ (sorted_moved cmp xs))
+
+-- what holds of each element holds of each of the sorted list
+pub all_inserted : {X : Type 0} (P : X → Type 0) (cmp : X → X → Ordering) (x : X) (ys : List X) → P x → AllByRecursion P ys → AllByRecursion P (insert_by cmp x ys)
+all_inserted P cmp x [] h k = (h, tt)
+all_inserted P cmp x (y ∷ ys) h k =
+    elim (is_gt (cmp x y)) as (λ b. AllByRecursion P (cond b (y ∷ insert_by cmp x ys) (x ∷ y ∷ ys))) [ true ↦ (k.0, all_inserted P cmp x ys h k.1) | false ↦ (h, k) ]
+
+pub all_sorted : {X : Type 0} (P : X → Type 0) (cmp : X → X → Ordering) (xs : List X) → AllByRecursion P xs → AllByRecursion P (sorted cmp xs)
+all_sorted P cmp [] h = tt
+all_sorted P cmp (x ∷ xs) h = all_inserted P cmp x (sorted cmp xs) h.0 (all_sorted P cmp xs h.1)
 
 module _ {X : Type 0} {cmp : X → X → Ordering} (total : IsTotalOrder cmp) (exact : (x y : X) → cmp x y ≡ Equal → x ≡ y) where
   -- of two elements one is not above the other

@@ -14,7 +14,8 @@ use Rattle.logical_dag.specs.Facts.{AreFactsOf}
 use Rattle.logical_dag.specs.Places.{block_leaves, block_pairs, chosen, IsPart}
 use Rattle.logical_dag.specs.BlockFacts.{AreFactsOfAll}
 use Rattle.logical_dag.proofs.JoinFacts.{join_facts}
-use Rattle.logical_dag.proofs.Blocks.{formed_sets, chosen_formed, chosen_none_within}
+use Rattle.logical_dag.proofs.Leaves.{formed_sets}
+use Rattle.logical_dag.proofs.Blocks.{chosen_formed, chosen_none_within}
 
 -- the facts of chosen leaves are those of each join of them
 pub leaves_facts : (results : List (List ℕ)) (shared : List Facts) (mask : ℕ) (node t : Expression) (f : Facts) → IsFormed results node → IsPart (Leaves mask) node t

@@ -1,11 +1,7 @@
 -- An expression by the children that a slice pattern found.
-use Rattle.std.proofs.Common.{◌≡◌, ◌<◌, ◌≤◌, List, [], ◌∷◌, map, get_or, length, refl, sym, ap, ap₂, ◌∙◌, arith}
+use Rattle.std.proofs.Common.{◌≡◌, ◌<◌, ◌≤◌, List, [], ◌∷◌, map, get_or, length, sym, ap, ap₂, ◌∙◌, arith}
 use Rattle.logical_dag.specs.declared.logical.Logical.{Logical, out-Logical, fold_out-Logical}
-use Rattle.logical_dag.specs.Tree.{Tree, leaf, one, two, node, Expression, tree_of}
-
-no_kid : {A B : Type 0} (s : A) (f : B → Tree A) (xs : List B) → length xs < 1 → node s (map f xs) ≡ leaf s
-no_kid s f [] h = refl
-no_kid s f (x ∷ xs) h = absurd (omega arith)
+use Rattle.logical_dag.specs.Tree.{Tree, one, two, node, Expression, tree_of}
 
 one_kid : {A B : Type 0} (s : A) (f : B → Tree A) (xs : List B) (q : B) → 1 ≤ length xs → length xs < 2 → q ≡ get_or xs 0 q → node s (map f xs) ≡ one s (f q)
 one_kid s f [] q h k is = absurd (omega arith)
@@ -17,11 +13,9 @@ two_kids s f [] q r h is also = absurd (omega arith)
 two_kids s f (x ∷ []) q r h is also = absurd (omega arith)
 two_kids s f (x ∷ y ∷ xs) q r h is also = ap₂ (λ z w. two s (f z) (f w)) (sym is) (sym also)
 
-opened : (t : Logical) → tree_of t ≡ node (out-Logical t).op (map tree_of (out-Logical t).kids)
+-- a tree is a node over its children
+pub opened : (t : Logical) → tree_of t ≡ node (out-Logical t).op (map tree_of (out-Logical t).kids)
 opened t = fold_out-Logical Expression (λ x. node x.op x.kids) t
-
-pub tree_leaf : (t : Logical) (kids : List Logical) → kids ≡ (out-Logical t).kids → length kids < 1 → tree_of t ≡ leaf (out-Logical t).op
-tree_leaf t kids e h = opened t ∙ ap (λ l. node (out-Logical t).op (map tree_of l)) (sym e) ∙ no_kid _ tree_of kids h
 
 pub tree_one : (t : Logical) (kids : List Logical) (u : Logical) → kids ≡ (out-Logical t).kids → 1 ≤ length kids → length kids < 2 → u ≡ get_or kids 0 u
     → tree_of t ≡ one (out-Logical t).op (tree_of u)

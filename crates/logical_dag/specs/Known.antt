@@ -148,3 +148,11 @@ AreApart left right = (c : ℕ) → c < 128 → has right.determined c ≡ true 
 abbrev pub IsJoinApart : LogicOp → Facts → Facts → Type 0
 IsJoinApart (Join on) left right = AreApart left right
 IsJoinApart op left right = Unit {0}
+
+-- the facts are those of an expression such that a node with it on the left and this one on the right is formed
+abbrev pub IsLeftOf : List Facts → LogicOp → Expression → Facts → Type 0
+IsLeftOf shared op u left = (t : Expression) × IsFormed (lent_columns shared) (two op t u) × AreFactsOf shared t left
+
+-- f has the facts of a node over an expression with the facts on the left and this one on the right
+abbrev pub AreFactsBeside : List Facts → LogicOp → Expression → Facts → Facts → Type 0
+AreFactsBeside shared op u left f = (t : Expression) → IsFormed (lent_columns shared) (two op t u) → AreFactsOf shared t left → AreFactsOf shared (two op t u) f

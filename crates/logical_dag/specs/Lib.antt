@@ -12,4 +12,5 @@ pub mod Places
 pub mod Rows
 pub mod Scripts
 pub mod Showing
+pub mod Tall
 pub mod Tree

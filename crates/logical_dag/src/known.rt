@@ -1,11 +1,12 @@
-// What is known of the rows of an expression.
+// What is known of the rows of an expression. Facts have 2.6 KB, and a tree may be hundreds of levels high: the recursion
+// works them out in one place, and what holds facts by value is not inlined, so that no level's frame has room for them.
 ghost use Rattle.std.specs.Prelude.{◌<◌, All, Some};
 ghost use Rattle.col_sets.specs.Sets.{IsColumnSet};
 ghost use Rattle.logical_dag.specs.Tree as tree;
 ghost use Rattle.logical_dag.specs.Tree.{leaf, tree_of};
 ghost use Rattle.logical_dag.specs.Formed.{IsFormed, IsOver, IsGroup, IsOneFormed, IsTwoFormed};
 ghost use Rattle.logical_dag.specs.Facts.{ref_name, key_name, AreFactsOf};
-ghost use Rattle.logical_dag.specs.Known.{IsLentSet, name_of, IsNaming, IsOwn, AreRenamed, AreProjected, AreGrouped, AreJoined, AreApart, AreFactsAbove, AreFactsOver, IsJoinApart};
+ghost use Rattle.logical_dag.specs.Known.{IsLentSet, name_of, IsNaming, IsOwn, AreRenamed, AreProjected, AreGrouped, AreJoined, AreApart, AreFactsAbove, AreFactsOver, IsJoinApart, IsLeftOf, AreFactsBeside};
 ghost use Rattle.logical_dag.specs.Laws.{lent_columns, HoldOf, DoFactsHold};
 
 use crate::args::GroupArgs;
@@ -100,10 +101,11 @@ pub(crate) fn joined(on: &[(ColId, ColId)], left: Facts, right: &Facts) -> Facts
     with_pairs(on, with_equalities(right, &names, depends))
 }
 
-// The facts of a node without children.
-fn leaf_facts(op: &LogicOp, shared: &[Facts]) -> Facts
+// Puts the facts of a node without children.
+#[inline(never)]
+fn leaf_facts(op: &LogicOp, shared: &[Facts], facts: &mut Facts)
     requires { IsFormed (lent_columns shared.now) (leaf op.now) }
-    ensures value { AreFactsOf shared.now (leaf op.now) result }
+    ensures value { AreFactsOf shared.now (leaf op.now) facts.new }
     ensures set { IsLentSet shared.now (leaf op.now) }
 {
     match op {
@@ -111,61 +113,83 @@ fn leaf_facts(op: &LogicOp, shared: &[Facts]) -> Facts
             shared: number,
             cols,
         } => match shared.get(*number as usize) {
-            Some(lent) => referred(lent, *cols),
-            None => Facts::of_columns(*cols),
+            Some(lent) => *facts = referred(lent, *cols),
+            None => *facts = Facts::of_columns(*cols),
         },
-        LogicOp::Scan { cols, .. } => Facts::of_columns(*cols),
-        _ => Facts::of_columns(ColSet::empty()),
+        LogicOp::Scan { cols, .. } => *facts = Facts::of_columns(*cols),
+        _ => *facts = Facts::of_columns(ColSet::empty()),
     }
 }
 
-// The facts of a node over an expression with the facts below.
-fn facts_above(op: &LogicOp, below: Facts) -> Facts
-    requires formed { IsOneFormed below.columns op.now }
-    requires own { IsOwn below }
-    ensures { AreFactsAbove op.now below result }
+// Makes of the facts below a node those of the node.
+#[inline(never)]
+fn facts_above(op: &LogicOp, facts: &mut Facts)
+    requires formed { IsOneFormed facts.old.columns op.now }
+    requires own { IsOwn facts.old }
+    ensures { AreFactsAbove op.now facts.old facts.new }
 {
     match op {
-        LogicOp::Filter(e) => with_conjuncts(e, below),
-        LogicOp::Project { items, cols } => projected(items.as_slice(), *cols, &below),
-        LogicOp::Group(args) => grouped(args, &below),
-        LogicOp::Finish(args) => grouped(args, &below),
-        LogicOp::Partial(args) => keyed(args, &below),
-        LogicOp::Process(call) => Facts::of_columns(call.cols),
-        LogicOp::Reduce { call, .. } => Facts::of_columns(call.cols),
-        _ => below,
+        LogicOp::Filter(e) => with_conjuncts(e, facts),
+        LogicOp::Project { items, cols } => *facts = projected(items.as_slice(), *cols, facts),
+        LogicOp::Group(args) => *facts = grouped(args, facts),
+        LogicOp::Finish(args) => *facts = grouped(args, facts),
+        LogicOp::Partial(args) => *facts = keyed(args, facts),
+        LogicOp::Process(call) => *facts = Facts::of_columns(call.cols),
+        LogicOp::Reduce { call, .. } => *facts = Facts::of_columns(call.cols),
+        _ => {}
     }
 }
 
-// The facts of a node over two expressions with these facts.
-fn facts_over(op: &LogicOp, left: Facts, right: &Facts) -> Facts
-    requires formed { IsTwoFormed left.columns right.now.columns op.now }
-    requires own { IsOwn left }
-    requires apart { IsJoinApart op.now left right.now }
-    ensures { AreFactsOver op.now left right.now result }
+// Makes of the facts on the left of a node, with those on the right, those of the node.
+#[inline(never)]
+fn facts_over(op: &LogicOp, facts: &mut Facts, right: &Facts)
+    requires formed { IsTwoFormed facts.old.columns right.now.columns op.now }
+    requires own { IsOwn facts.old }
+    requires apart { IsJoinApart op.now facts.old right.now }
+    ensures { AreFactsOver op.now facts.old right.now facts.new }
 {
     match op {
         LogicOp::Join { on } => {
-            is_ascending(left.columns);
+            is_ascending(facts.columns);
             is_ascending(right.columns);
-            joined(on.as_slice(), left, right)
+            *facts = joined(on.as_slice(), *facts, right);
         }
-        LogicOp::Combine { call, .. } => Facts::of_columns(call.cols),
-        _ => Facts::of_columns(left.columns.union(right.columns)),
+        LogicOp::Combine { call, .. } => *facts = Facts::of_columns(call.cols),
+        _ => *facts = Facts::of_columns(facts.columns.union(right.columns)),
     }
 }
 
-// The same as `facts_of`; what the facts hold of follows from it.
-fn known_of(tree: &Logical, shared: &[Facts]) -> Facts
+// Puts the facts of the expression, as `facts_of` gives them; what the facts hold of follows from that.
+#[cycle(known)]
+fn known_of(tree: &Logical, shared: &[Facts], facts: &mut Facts)
     requires { IsFormed (lent_columns shared.now) (tree_of tree.now) }
-    ensures value { AreFactsOf shared.now (tree_of tree.now) result }
+    ensures value { AreFactsOf shared.now (tree_of tree.now) facts.new }
     ensures set { IsLentSet shared.now (tree_of tree.now) }
 {
     match tree.kids.as_slice() {
-        [] => leaf_facts(&tree.op, shared),
-        [below] => facts_above(&tree.op, known_of(below, shared)),
-        [left, right, ..] => facts_over(&tree.op, known_of(left, shared), &known_of(right, shared)),
+        [] => leaf_facts(&tree.op, shared, facts),
+        [below] => {
+            known_of(below, shared, facts);
+            facts_above(&tree.op, facts);
+        }
+        [left, right, ..] => {
+            known_of(left, shared, facts);
+            known_beside(&tree.op, right, shared, facts);
+        }
     }
+}
+
+// Makes of the facts on the left of a node those of the node. The facts of the expression on the right are in this frame.
+#[cycle(known)]
+#[inline(never)]
+fn known_beside(op: &LogicOp, right: &Logical, shared: &[Facts], facts: &mut Facts)
+    requires { IsLeftOf shared.now op.now (tree_of right.now) facts.old }
+    ensures value { AreFactsBeside shared.now op.now (tree_of right.now) facts.old facts.new }
+    ensures set { IsLentSet shared.now (tree_of right.now) }
+{
+    let mut beside = Facts::of_columns(ColSet::empty());
+    known_of(right, shared, &mut beside);
+    facts_over(op, facts, &beside);
 }
 
 /// The facts of an expression, where `shared` has those of each shared result that it refers to, by number.
@@ -174,7 +198,9 @@ pub fn facts_of(tree: &Logical, shared: &[Facts]) -> Facts
     ensures value { AreFactsOf shared.now (tree_of tree.now) result }
     ensures hold { HoldOf shared.now (tree_of tree.now) result }
 {
-    known_of(tree, shared)
+    let mut facts = Facts::of_columns(ColSet::empty());
+    known_of(tree, shared, &mut facts);
+    facts
 }
 
 /// The facts of an expression hold of each bag that stands for it, where those that are lent hold of theirs.

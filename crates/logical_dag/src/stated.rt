@@ -11,41 +11,46 @@ use col_sets::{ColId, ColSet};
 use fd_closure::Facts;
 use scope_expr::{Expr, PairOp};
 
-// With what an equation of two sides states: of a column and a literal a constant, of two columns that they are equal.
-fn with_equation(a: &Expr, b: &Expr, into: Facts) -> Facts
-    ensures rest { result ≡ record into { constants = result.constants; class = result.class } }
-    ensures constants { AreConstants result (λ c. (has into.constants c ≡ true) ⊎ IsColumnAndLiteral c a.now b.now) }
-    ensures classes { IsOwn into → AreBelow (λ c d. AreColumns c d a.now b.now)
-        → AreClasses result (λ c d. (equal_of into c d ≡ true) ⊎ AreColumns c d a.now b.now) }
+// Adds what an equation of two sides states: of a column and a literal a constant, of two columns that they are equal. Not
+// inlined, as in `known.rt`: the recursion over the conjuncts of a predicate may be thousands of levels deep.
+#[inline(never)]
+fn with_equation(a: &Expr, b: &Expr, facts: &mut Facts)
+    ensures rest { facts.new ≡ record facts.old { constants = facts.new.constants; class = facts.new.class } }
+    ensures constants { AreConstants facts.new (λ c. (has facts.old.constants c ≡ true) ⊎ IsColumnAndLiteral c a.now b.now) }
+    ensures classes { IsOwn facts.old → AreBelow (λ c d. AreColumns c d a.now b.now)
+        → AreClasses facts.new (λ c d. (equal_of facts.old c d ≡ true) ⊎ AreColumns c d a.now b.now) }
 {
     match a {
         Expr::Col(c, _) => match b {
-            Expr::Col(d, _) => into.with_equal(*c, *d),
-            Expr::Literal(_) => into.with_constant(*c),
-            _ => into,
+            Expr::Col(d, _) => *facts = facts.with_equal(*c, *d),
+            Expr::Literal(_) => *facts = facts.with_constant(*c),
+            _ => {}
         },
         Expr::Literal(_) => match b {
-            Expr::Col(d, _) => into.with_constant(*d),
-            _ => into,
+            Expr::Col(d, _) => *facts = facts.with_constant(*d),
+            _ => {}
         },
-        _ => into,
+        _ => {}
     }
 }
 
-/// With what the conjuncts of a predicate state that holds of all rows.
-pub fn with_conjuncts(e: &Expr, into: Facts) -> Facts
-    ensures rest { result ≡ record into { constants = result.constants; class = result.class } }
-    ensures constants { AreConstants result (λ c. (has into.constants c ≡ true) ⊎ SetsConstant e.now c) }
-    ensures classes { IsOwn into → AreBelow (SetsEqual e.now)
-        → AreClasses result (λ c d. (equal_of into c d ≡ true) ⊎ SetsEqual e.now c d) }
+/// Adds what the conjuncts of a predicate state that holds of all rows.
+pub fn with_conjuncts(e: &Expr, facts: &mut Facts)
+    ensures rest { facts.new ≡ record facts.old { constants = facts.new.constants; class = facts.new.class } }
+    ensures constants { AreConstants facts.new (λ c. (has facts.old.constants c ≡ true) ⊎ SetsConstant e.now c) }
+    ensures classes { IsOwn facts.old → AreBelow (SetsEqual e.now)
+        → AreClasses facts.new (λ c d. (equal_of facts.old c d ≡ true) ⊎ SetsEqual e.now c d) }
 {
     match e {
         Expr::Pair(op, a, b) => match op {
-            PairOp::And => with_conjuncts(b.get(), with_conjuncts(a.get(), into)),
-            PairOp::Eq => with_equation(a.get(), b.get(), into),
-            _ => into,
+            PairOp::And => {
+                with_conjuncts(a.get(), facts);
+                with_conjuncts(b.get(), facts);
+            }
+            PairOp::Eq => with_equation(a.get(), b.get(), facts),
+            _ => {}
         },
-        _ => into,
+        _ => {}
     }
 }
 

@@ -1,5 +1,6 @@
 // What is known of the rows of small expressions, worked out by hand.
 mod making;
+mod tall;
 mod trees;
 
 use crate::{Place, PlacePart, facts_at, facts_of};

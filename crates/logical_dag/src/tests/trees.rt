@@ -12,8 +12,8 @@ use scope_value::{Cell, ColType, Column, Schema};
 use sqlite_items::{Boxed, Items};
 use std::alloc::{AllocError, Global};
 
-// Columns 0 to 3.
-fn four_columns() -> ColSet
+/// Columns 0 to 3.
+pub fn four_columns() -> ColSet
     ensures { result ≡ 0 ∷ 1 ∷ 2 ∷ 3 ∷ [] }
 {
     ColSet::empty().with(0).with(1).with(2).with(3)

@@ -3,7 +3,8 @@ use Rattle.col_sets.specs.Sets.{has}
 use Rattle.fd_closure.specs.Known.{by_of}
 use Rattle.logical_dag.specs.Facts.{IsRenamedSet}
 use Rattle.logical_dag.specs.Known.{name_of}
-use Rattle.logical_dag.proofs.Carrying.{read_at, dependency_added}
+use Rattle.logical_dag.proofs.Reading.{read_at}
+use Rattle.logical_dag.proofs.Carrying.{dependency_added}
 use Rattle.logical_dag.proofs.carried.with_dependency_of.Goals as goal
 
 pub returns-in-Some-renamed_set-clause-dependencies : goal.returns-in-Some-renamed_set-clause-dependencies

@@ -12,34 +12,34 @@ use Rattle.logical_dag.proofs.known.facts_above.Goals as goal
 pub returns-in-Filter : goal.returns-in-Filter
 returns-in-Filter c = λ shared t formed facts.
     let over = subst (λ (op : LogicOp). IsOneFormed (columns_of t) op) c.in-Filter.is formed.1 in
-    subst (λ (op : LogicOp). AreFactsOf shared (one op t) c.with_conjuncts.result) (sym c.in-Filter.is)
-    (filter_facts shared t c.args.below (lent_columns shared) formed.0 facts c.in-Filter.e c.with_conjuncts.result c.with_conjuncts.ensures.rest c.with_conjuncts.ensures.constants
+    subst (λ (op : LogicOp). AreFactsOf shared (one op t) c.with_conjuncts.new.facts) (sym c.in-Filter.is)
+    (filter_facts shared t c.args.facts.now (lent_columns shared) formed.0 facts c.in-Filter.e c.with_conjuncts.new.facts c.with_conjuncts.ensures.rest c.with_conjuncts.ensures.constants
     (c.with_conjuncts.ensures.classes c.requires.own (filter_low (lent_columns shared) t c.in-Filter.e formed.0 over)))
 
 pub returns-in-Project : goal.returns-in-Project
 returns-in-Project c = λ shared t formed facts.
     let over = subst (λ (op : LogicOp). IsOneFormed (columns_of t) op) c.in-Project.is formed.1 in
     subst (λ (op : LogicOp). AreFactsOf shared (one op t) c.projected.result) (sym c.in-Project.is)
-    (project_facts shared t c.args.below (lent_columns shared) formed.0 facts c.in-Project.items c.in-Project.cols c.projected.result over.2
-    (subst (λ (items : List Expr). AreProjected items c.in-Project.cols c.args.below c.projected.result) c.as_slice.ensures c.projected.ensures))
+    (project_facts shared t c.args.facts.now (lent_columns shared) formed.0 facts c.in-Project.items c.in-Project.cols c.projected.result over.2
+    (subst (λ (items : List Expr). AreProjected items c.in-Project.cols c.args.facts.now c.projected.result) c.as_slice.ensures c.projected.ensures))
 
 pub returns-in-Group : goal.returns-in-Group
 returns-in-Group c = λ shared t formed facts.
     let over = subst (λ (op : LogicOp). IsOneFormed (columns_of t) op) c.in-Group.is formed.1 in
     subst (λ (op : LogicOp). AreFactsOf shared (one op t) c.grouped.result) (sym c.in-Group.is)
-    (group_facts shared t c.args.below (lent_columns shared) formed.0 facts c.in-Group.args c.grouped.result over.0 c.grouped.ensures)
+    (group_facts shared t c.args.facts.now (lent_columns shared) formed.0 facts c.in-Group.args c.grouped.result over.0 c.grouped.ensures)
 
 pub returns-in-Finish : goal.returns-in-Finish
 returns-in-Finish c = λ shared t formed facts.
     let over = subst (λ (op : LogicOp). IsOneFormed (columns_of t) op) c.in-Finish.is formed.1 in
     subst (λ (op : LogicOp). AreFactsOf shared (one op t) c.grouped-in-Finish.result) (sym c.in-Finish.is)
-    (finish_facts shared t c.args.below (lent_columns shared) formed.0 facts c.in-Finish.args c.grouped-in-Finish.result over c.grouped-in-Finish.ensures)
+    (finish_facts shared t c.args.facts.now (lent_columns shared) formed.0 facts c.in-Finish.args c.grouped-in-Finish.result over c.grouped-in-Finish.ensures)
 
 pub returns-in-Partial : goal.returns-in-Partial
 returns-in-Partial c = λ shared t formed facts.
     let over = subst (λ (op : LogicOp). IsOneFormed (columns_of t) op) c.in-Partial.is formed.1 in
     subst (λ (op : LogicOp). AreFactsOf shared (one op t) c.keyed.result) (sym c.in-Partial.is)
-    (partial_facts shared t c.args.below (lent_columns shared) formed.0 facts c.in-Partial.args c.keyed.result over.0 c.keyed.ensures)
+    (partial_facts shared t c.args.facts.now (lent_columns shared) formed.0 facts c.in-Partial.args c.keyed.result over.0 c.keyed.ensures)
 
 pub returns-in-Process : goal.returns-in-Process
 returns-in-Process c = λ shared t formed facts.
@@ -54,4 +54,4 @@ returns-in-Reduce c = λ shared t formed facts.
 
 pub returns-in_default : goal.returns-in_default
 returns-in_default c = λ shared t formed facts.
-    kept_facts shared c.args.op.now t c.args.below c.in_default.not-Filter c.in_default.not-Project c.in_default.not-Group c.in_default.not-Finish c.in_default.not-Partial c.in_default.not-Process c.in_default.not-Reduce facts
+    kept_facts shared c.args.op.now t c.args.facts.now c.in_default.not-Filter c.in_default.not-Project c.in_default.not-Group c.in_default.not-Finish c.in_default.not-Partial c.in_default.not-Process c.in_default.not-Reduce facts

@@ -6,7 +6,7 @@ use Rattle.logical_dag.specs.Tree.{leaf}
 use Rattle.logical_dag.specs.Facts.{AreFactsOf}
 use Rattle.logical_dag.specs.Laws.{lent_columns}
 use Rattle.logical_dag.specs.Known.{IsLentSet}
-use Rattle.logical_dag.proofs.Stating.{read_some}
+use Rattle.logical_dag.proofs.Reading.{read_some}
 use Rattle.logical_dag.proofs.KnownTables.{ref_facts, scan_facts, bare_facts, lent_set, lent_there, bare_set}
 use Rattle.logical_dag.proofs.known.leaf_facts.Goals as goal
 

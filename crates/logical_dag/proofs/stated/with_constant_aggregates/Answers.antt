@@ -1,7 +1,9 @@
 use Rattle.std.proofs.Common.{◌≡◌, ◌<◌, ◌≤◌, ap, arith, length, refl, rules}
 use Rattle.std.specs.Prelude.{Any}
 use Rattle.fd_closure.specs.declared.facts.Facts.{Facts}
-use Rattle.logical_dag.proofs.Stating.{IsAggregateAt, constants_first, constants_more, constants_done, constants_with, aggregate_only, aggregate_is, aggregates_there, aggregates_back}
+use Rattle.logical_dag.proofs.Constants.{constants_with}
+use Rattle.logical_dag.proofs.OneBelow.{constants_first, constants_more, constants_done}
+use Rattle.logical_dag.proofs.AggregateFacts.{IsAggregateAt, aggregate_only, aggregate_is, aggregates_there, aggregates_back}
 use Rattle.logical_dag.proofs.stated.with_constant_aggregates.Goals as goal
 
 pub loop-agg-init : goal.loop-agg-init

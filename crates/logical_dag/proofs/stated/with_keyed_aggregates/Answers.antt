@@ -1,5 +1,5 @@
 use Rattle.std.proofs.Common.{◌<◌, ◌≤◌, arith, length, refl, sym, rules}
-use Rattle.logical_dag.proofs.Stating.{keyed_first, keyed_step, keyed_done, aggregates_low, aggregate_free}
+use Rattle.logical_dag.proofs.AggregateFacts.{keyed_first, keyed_step, keyed_done, aggregates_low, aggregate_free}
 use Rattle.logical_dag.proofs.stated.with_keyed_aggregates.Goals as goal
 
 pub loop-agg-init : goal.loop-agg-init

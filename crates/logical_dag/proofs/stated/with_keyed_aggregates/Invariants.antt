@@ -1,6 +1,7 @@
 use Rattle.std.proofs.Common.{◌≡◌, ◌⊎◌}
 use Rattle.logical_dag.specs.Known.{AreDependencies, IsDependency}
-use Rattle.logical_dag.proofs.Stating.{OneBelow, IsAggregateAt}
+use Rattle.logical_dag.proofs.OneBelow.{OneBelow}
+use Rattle.logical_dag.proofs.AggregateFacts.{IsAggregateAt}
 use Rattle.logical_dag.proofs.stated.with_keyed_aggregates.Given as goal
 
 abbrev pub invariant-loop-agg : goal.invariant-loop-agg

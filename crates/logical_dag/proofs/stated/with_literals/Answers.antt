@@ -1,7 +1,9 @@
 use Rattle.std.proofs.Common.{◌≡◌, ◌<◌, ◌≤◌, ℕ, true, arith, length, refl, rules, Some, slice_get}
 use Rattle.std.specs.Prelude.{IsSomeAnd}
 use Rattle.logical_dag.specs.Facts.{is_literal}
-use Rattle.logical_dag.proofs.Stating.{IsLiteralAt, constants_first, constants_done, literal_step, literals_there, literals_back, read_some}
+use Rattle.logical_dag.proofs.Reading.{read_some}
+use Rattle.logical_dag.proofs.OneBelow.{constants_first, constants_done}
+use Rattle.logical_dag.proofs.LiteralFacts.{IsLiteralAt, literal_step, literals_there, literals_back}
 use Rattle.logical_dag.proofs.stated.with_literals.Goals as goal
 
 pub loop-i-init : goal.loop-i-init

@@ -1,7 +1,8 @@
 use Rattle.std.proofs.Common.{◌≡◌, ◌⊎◌, true}
 use Rattle.col_sets.specs.Sets.{has}
 use Rattle.logical_dag.specs.Known.{AreConstants}
-use Rattle.logical_dag.proofs.Stating.{OneBelow, IsLiteralAt}
+use Rattle.logical_dag.proofs.OneBelow.{OneBelow}
+use Rattle.logical_dag.proofs.LiteralFacts.{IsLiteralAt}
 use Rattle.logical_dag.proofs.stated.with_literals.Given as goal
 
 abbrev pub invariant-loop-i : goal.invariant-loop-i

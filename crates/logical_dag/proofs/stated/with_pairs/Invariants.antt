@@ -1,7 +1,7 @@
 use Rattle.std.proofs.Common.{◌≡◌, ◌⊎◌, true}
 use Rattle.fd_closure.specs.Known.{equal_of}
 use Rattle.logical_dag.specs.Known.{AreClasses}
-use Rattle.logical_dag.proofs.Stating.{PairBelow}
+use Rattle.logical_dag.proofs.PairsBelow.{PairBelow}
 use Rattle.logical_dag.proofs.stated.with_pairs.Given as goal
 
 abbrev pub invariant-loop-pair : goal.invariant-loop-pair

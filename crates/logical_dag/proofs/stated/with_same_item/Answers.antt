@@ -3,7 +3,7 @@ use Rattle.std.specs.Prelude.{position}
 use Rattle.col_sets.specs.Tests.{to_test}
 use Rattle.logical_dag.specs.Facts.{is_column}
 use Rattle.logical_dag.specs.Known.{IsItem}
-use Rattle.logical_dag.proofs.Stating.{item_one, item_is, no_place, first_place, column_before}
+use Rattle.logical_dag.proofs.ItemFacts.{item_one, item_is, no_place, first_place, column_before}
 use Rattle.logical_dag.proofs.stated.with_same_item.Goals as goal
 
 pub returns-in_default-place_of-clause-equal : goal.returns-in_default-place_of-clause-equal

@@ -1,5 +1,6 @@
 use Rattle.std.proofs.Common.{◌<◌, ◌≤◌, arith, length, refl, rules}
-use Rattle.logical_dag.proofs.Stating.{items_first, items_step, items_done, read_some}
+use Rattle.logical_dag.proofs.Reading.{read_some}
+use Rattle.logical_dag.proofs.ItemFacts.{items_first, items_step, items_done}
 use Rattle.logical_dag.proofs.stated.with_same_items.Goals as goal
 
 pub loop-j-init : goal.loop-j-init

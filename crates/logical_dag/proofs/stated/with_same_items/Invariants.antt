@@ -1,7 +1,7 @@
 use Rattle.std.proofs.Common.{◌≡◌, ◌⊎◌, true}
 use Rattle.fd_closure.specs.Known.{equal_of}
 use Rattle.logical_dag.specs.Known.{AreClasses}
-use Rattle.logical_dag.proofs.Stating.{SameItemsBelow}
+use Rattle.logical_dag.proofs.ItemFacts.{SameItemsBelow}
 use Rattle.logical_dag.proofs.stated.with_same_items.Given as goal
 
 abbrev pub invariant-loop-j : goal.invariant-loop-j

@@ -1,0 +1,98 @@
+// Trees and predicates that are as deep as a script can make them, or deeper: their facts are found within the stack.
+ghost use Rattle.std.specs.Prelude.{◌≡◌, IfOk};
+ghost use Rattle.logical_dag.specs.Tree.{leaf, tree_of};
+ghost use Rattle.logical_dag.specs.Formed.{IsOver};
+ghost use Rattle.logical_dag.specs.Tall.{four_columns, IsOverFour};
+
+use super::making::{column, number, over, pair, set_of};
+use super::trees::four_columns;
+use crate::{LogicOp, Logical, facts_of};
+use col_sets::ColSet;
+use fd_closure::{Facts, closure};
+use scope_expr::{Expr, PairOp};
+use sqlite_items::Items;
+use std::alloc::{AllocError, Global};
+use std::process::Abort;
+use std::test::Fail;
+
+// `0 == 1`.
+fn link(alloc: Global) -> Result<Expr, AllocError>
+    ensures { IfOk result (IsOver four_columns) }
+{
+    pair(alloc, PairOp::Eq, column(0), column(1))
+}
+
+// `3 == 7`.
+fn constant(alloc: Global) -> Result<Expr, AllocError>
+    ensures { IfOk result (IsOver four_columns) }
+{
+    pair(alloc, PairOp::Eq, column(3), number(7))
+}
+
+// `0 == 1` over and over, then `3 == 7`, each `&&` being on the left of the next.
+fn conjuncts(alloc: Global, count: u32) -> Result<Expr, AllocError>
+    ensures { IfOk result (IsOver four_columns) }
+{
+    let mut all = link(alloc)?;
+    for _ in 2..count {
+        all = pair(alloc, PairOp::And, all, link(alloc)?)?;
+    }
+    pair(alloc, PairOp::And, all, constant(alloc)?)
+}
+
+// Rows of columns 0 to 3.
+fn rows(alloc: Global) -> Logical
+    ensures { tree_of result ≡ leaf (LogicOp.Scan 0 four_columns) }
+{
+    Logical {
+        op: LogicOp::Scan {
+            scan: 0,
+            cols: four_columns(),
+        },
+        kids: Items::new(alloc),
+    }
+}
+
+// Those of them of which the predicate holds.
+fn filtered(alloc: Global, predicate: Expr) -> Result<Logical, AllocError>
+    requires { IsOver four_columns predicate }
+    ensures { IfOk result (λ t. IsOverFour (tree_of t)) }
+{
+    over(alloc, LogicOp::Filter(predicate), rows(alloc))
+}
+
+// A Filter by `3 == 7`, and Filters by `0 == 1` over one another above it.
+fn filters(alloc: Global, count: u32) -> Result<Logical, AllocError>
+    ensures { IfOk result (λ t. IsOverFour (tree_of t)) }
+{
+    let mut tree = filtered(alloc, constant(alloc)?)?;
+    for _ in 1..count {
+        tree = over(alloc, LogicOp::Filter(link(alloc)?), tree)?;
+    }
+    Ok(tree)
+}
+
+// Columns 0 and 1 are equal, and column 3 is constant.
+fn check_facts(rt: &impl Abort, facts: &Facts) {
+    assert_eq!(rt; facts.columns, set_of(&[0, 1, 2, 3]));
+    assert_eq!(rt; facts.constants, set_of(&[3]));
+    assert_eq!(rt; closure(facts, set_of(&[0])), set_of(&[0, 1, 3]));
+    assert_eq!(rt; closure(facts, set_of(&[2])), set_of(&[2, 3]));
+    assert_eq!(rt; closure(facts, ColSet::empty()), set_of(&[3]));
+}
+
+// A script's expressions can be some 450 levels high.
+#[test]
+fn tall_trees_have_facts(rt: HostRuntime) -> Result<(), Fail> {
+    let tree = filters(rt.alloc(), 640)?;
+    check_facts(&rt, &facts_of(&tree, &[]));
+    Ok(())
+}
+
+// Filters that are merged into one can have some 6,400 conjuncts.
+#[test]
+fn long_predicates_have_facts(rt: HostRuntime) -> Result<(), Fail> {
+    let tree = filtered(rt.alloc(), conjuncts(rt.alloc(), 6400)?)?;
+    check_facts(&rt, &facts_of(&tree, &[]));
+    Ok(())
+}
