@@ -20,9 +20,11 @@ const MARKED: &[u8] = b"e = EXTRACT m FROM \"in\" USING Marking; OUTPUT e TO \"o
 
 const REFUSED: &[u8] = b"e = EXTRACT m FROM \"in\" USING Refusing; OUTPUT e TO \"out\";";
 
-// What a run is given, and what comes of it. A call that fails is counted from 1, and 0 is none.
+// What a run is given, and what comes of it. The script that is asked for may be another than `s`, which is there. A call that fails is
+// counted from 1, and 0 is none.
 #[derive(Clone, Copy)]
 struct Case<'a> {
+    asked: &'a str,
     script: &'a [u8],
     input: Option<&'a [u8]>,
     failing_read: u64,
@@ -53,6 +55,7 @@ fn store_of(alloc: Global, case: &Case<'_>) -> Result<MemStore, AllocError> {
 
 fn done<'a>(script: &'a [u8], input: &'a [u8], output: &'a [u8]) -> Case<'a> {
     Case {
+        asked: "s",
         script,
         input: Some(input),
         failing_read: 0,
@@ -65,6 +68,7 @@ fn done<'a>(script: &'a [u8], input: &'a [u8], output: &'a [u8]) -> Case<'a> {
 
 fn stops<'a>(script: &'a [u8], input: &'a [u8], number: u32, line: &'a [u8]) -> Case<'a> {
     Case {
+        asked: "s",
         script,
         input: Some(input),
         failing_read: 0,
@@ -81,7 +85,7 @@ fn ends_as(
     ops: &OpSet,
     case: &Case<'_>,
 ) -> Result<(), AllocError> {
-    let words = words_of(alloc, &["scope", "run", "s"])?;
+    let words = words_of(alloc, &["scope", "run", case.asked])?;
     let mut store = store_of(alloc, case)?;
     let status = scope_main(alloc, words.as_slice(), &mut store, ops);
     let mut line = Vec::new(alloc);
@@ -115,6 +119,14 @@ fn scripts_end_as_they_should(rt: HostRuntime) -> Result<(), Fail> {
         input: None,
         ..stops(COPY, b"", 4, b"scope: no stream in")
     };
+    let no_script = Case {
+        asked: "t",
+        ..stops(COPY, b"1,x\n", 4, b"scope: no stream t")
+    };
+    let unread_script = Case {
+        failing_read: 1,
+        ..stops(COPY, b"1,x\n", 3, b"scope: cannot read s")
+    };
     let unread = Case {
         failing_read: 2,
         ..stops(COPY, b"1,x\n", 3, b"scope: cannot read in")
@@ -134,6 +146,8 @@ fn scripts_end_as_they_should(rt: HostRuntime) -> Result<(), Fail> {
         done(MARKED, b"1\n2,3\n", b"seen\nseen\n"),
         stops(REFUSED, b"1\n2\n", 9, b"scope: in: part 0: record 1"),
         stops(COPY, b"1,x\nq,y\n", 9, b"scope: in: part 0: record 2"),
+        no_script,
+        unread_script,
         missing,
         unread,
         unwritten,
