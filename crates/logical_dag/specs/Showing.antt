@@ -1,4 +1,4 @@
--- Two expressions of the tests.
+-- The expressions of the tests.
 use Rattle.std.specs.Prelude.{ℕ, pos, [], ◌∷◌, None}
 use Rattle.scope_value.specs.declared.value.Value.TheVariants.{Int}
 use Rattle.scope_value.specs.declared.schema.ColType.TheVariants.{Long}
@@ -7,8 +7,9 @@ use Rattle.scope_expr.specs.declared.agg.AggKind.TheVariants.{Count}
 use Rattle.scope_expr.specs.declared.expr.Expr.{Expr}
 use Rattle.scope_expr.specs.declared.expr.Expr.TheVariants.{Literal, Col, Neg, Pair}
 use Rattle.logical_dag.specs.declared.args.GroupArgs.{GroupArgs}
-use Rattle.logical_dag.specs.declared.logic_op.LogicOp.TheVariants.{Scan, Filter, Group}
-use Rattle.logical_dag.specs.Tree.{Expression, leaf, one}
+use Rattle.logical_dag.specs.declared.logic_op.LogicOp.{LogicOp}
+use Rattle.logical_dag.specs.declared.logic_op.LogicOp.TheVariants.{Scan, Filter, Join, Group}
+use Rattle.logical_dag.specs.Tree.{Expression, leaf, one, two}
 
 -- a column of numbers
 abbrev pub number_column : ℕ → Expr
@@ -30,3 +31,15 @@ counting = record { written = None; keys = 1 ∷ []; aggs = record { kind = Coun
 
 abbrev pub counted : Expression
 counted = one (Group counting) linked
+
+-- a Join by one pair of columns
+abbrev pub on_pair : ℕ → ℕ → LogicOp
+on_pair a b = Join (record { items = (a, b) ∷ [] })
+
+-- rows of column 0 with those of columns 1 and 2 that agree in 0 and 1
+abbrev pub two_joined : Expression
+two_joined = two (on_pair 0 1) (leaf (Scan 0 (0 ∷ []))) (leaf (Scan 1 (1 ∷ 2 ∷ [])))
+
+-- these with rows of column 3 that agree in 1 and 3
+abbrev pub three_joined : Expression
+three_joined = two (on_pair 1 3) two_joined (leaf (Scan 2 (3 ∷ [])))

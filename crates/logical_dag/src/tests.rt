@@ -1,5 +1,6 @@
 // What is known of the rows of small expressions, worked out by hand.
 mod making;
+mod scripts;
 mod tall;
 mod trees;
 
@@ -34,7 +35,7 @@ fn facts_of_groups_speak_of_keys(rt: HostRuntime) -> Result<(), Fail> {
 // Node 1 of the only tree is the Filter, node 2 the Group, and the first step of that knows of its key alone.
 #[test]
 fn places_have_their_facts(rt: HostRuntime) -> Result<(), Fail> {
-    let dag = trees::script(rt.alloc())?;
+    let dag = scripts::count_script(rt.alloc())?;
     for (node, part, columns, forced) in [
         (1, PlacePart::Whole, &[0, 1, 2, 3][..], &[0, 1, 2, 3][..]),
         (2, PlacePart::Whole, &[1, 4][..], &[1, 4][..]),
@@ -49,6 +50,32 @@ fn places_have_their_facts(rt: HostRuntime) -> Result<(), Fail> {
         let facts = facts_at(&dag, &place);
         assert_eq!(rt; facts.columns, set_of(columns));
         assert_eq!(rt; closure(&facts, set_of(&[1])), set_of(forced));
+    }
+    Ok(())
+}
+
+// Node 4 joins the leaves 0 to 2, whose columns are 0, then 1 and 2, then 3, and node 2 the first two of them. Of some of
+// them what is set equal across them counts alone.
+#[test]
+fn parts_of_a_block_have_their_facts(rt: HostRuntime) -> Result<(), Fail> {
+    let dag = scripts::join_script(rt.alloc())?;
+    for (node, leaves, columns, forced) in [
+        (4, 0b001, &[0][..], &[0][..]),
+        (4, 0b010, &[1, 2][..], &[1][..]),
+        (4, 0b011, &[0, 1, 2][..], &[0, 1][..]),
+        (4, 0b110, &[1, 2, 3][..], &[1, 3][..]),
+        (4, 0b111, &[0, 1, 2, 3][..], &[0, 1, 3][..]),
+        (2, 0b010, &[1, 2][..], &[1][..]),
+        (2, 0b011, &[0, 1, 2][..], &[0, 1][..]),
+    ] {
+        let place = Place {
+            tree: 0,
+            node,
+            part: PlacePart::Leaves(leaves),
+        };
+        let facts = facts_at(&dag, &place);
+        assert_eq!(rt; facts.columns, set_of(columns));
+        assert_eq!(rt; closure(&facts, set_of(&forced[..1])), set_of(forced));
     }
     Ok(())
 }

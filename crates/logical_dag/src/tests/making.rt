@@ -1,8 +1,10 @@
 // Parts of the expressions of the tests.
 ghost use Rattle.std.specs.Prelude.{◌≡◌, IfOk};
-ghost use Rattle.logical_dag.specs.Tree.{one, tree_of};
+ghost use Rattle.logical_dag.specs.Tree.{leaf, one, two, tree_of};
+ghost use Rattle.logical_dag.specs.Showing as spec;
 
 use crate::{LogicOp, Logical};
+use arrayvec::ArrayVec;
 use col_sets::{ColId, ColSet};
 use scope_expr::{Expr, PairOp};
 use scope_value::{ColType, Value};
@@ -18,6 +20,16 @@ pub fn set_of(cols: &[ColId]) -> ColSet {
     set
 }
 
+/// The scan of that number.
+pub fn scan(alloc: Global, number: u32, cols: ColSet) -> Logical
+    ensures { tree_of result ≡ leaf (LogicOp.Scan number cols) }
+{
+    Logical {
+        op: LogicOp::Scan { scan: number, cols },
+        kids: Items::new(alloc),
+    }
+}
+
 /// An operator over one child.
 pub fn over(alloc: Global, op: LogicOp, kid: Logical) -> Result<Logical, AllocError>
     ensures { IfOk result (λ t. tree_of t ≡ one op (tree_of kid)) }
@@ -25,6 +37,27 @@ pub fn over(alloc: Global, op: LogicOp, kid: Logical) -> Result<Logical, AllocEr
     let mut kids = Items::new(alloc);
     kids.push(kid)?;
     Ok(Logical { op, kids })
+}
+
+/// The rows of both that agree in the columns `a` on the left and `b` on the right.
+pub fn joined(
+    alloc: Global,
+    a: ColId,
+    b: ColId,
+    left: Logical,
+    right: Logical,
+) -> Result<Logical, AllocError>
+    ensures { IfOk result (λ t. tree_of t ≡ two (spec.on_pair a b) (tree_of left) (tree_of right)) }
+{
+    let mut on = ArrayVec::new();
+    on.push((a, b));
+    let mut kids = Items::new(alloc);
+    kids.push(left)?;
+    kids.push(right)?;
+    Ok(Logical {
+        op: LogicOp::Join { on },
+        kids,
+    })
 }
 
 /// A column of numbers.

@@ -4,13 +4,12 @@ ghost use Rattle.logical_dag.specs.Tree.{leaf, tree_of};
 ghost use Rattle.logical_dag.specs.Formed.{IsOver};
 ghost use Rattle.logical_dag.specs.Tall.{four_columns, IsOverFour};
 
-use super::making::{column, number, over, pair, set_of};
+use super::making::{column, number, over, pair, scan, set_of};
 use super::trees::four_columns;
 use crate::{LogicOp, Logical, facts_of};
 use col_sets::ColSet;
 use fd_closure::{Facts, closure};
 use scope_expr::{Expr, PairOp};
-use sqlite_items::Items;
 use std::alloc::{AllocError, Global};
 use std::process::Abort;
 use std::test::Fail;
@@ -44,13 +43,7 @@ fn conjuncts(alloc: Global, count: u32) -> Result<Expr, AllocError>
 fn rows(alloc: Global) -> Logical
     ensures { tree_of result ≡ leaf (LogicOp.Scan 0 four_columns) }
 {
-    Logical {
-        op: LogicOp::Scan {
-            scan: 0,
-            cols: four_columns(),
-        },
-        kids: Items::new(alloc),
-    }
+    scan(alloc, 0, four_columns())
 }
 
 // Those of them of which the predicate holds.

@@ -1,14 +1,12 @@
 // The expressions of the tests.
-ghost use Rattle.std.specs.Prelude.{◌≡◌, [], ◌∷◌, length, None, IfOk};
+ghost use Rattle.std.specs.Prelude.{◌≡◌, [], ◌∷◌, IfOk};
 ghost use Rattle.logical_dag.specs.Tree.{tree_of};
-ghost use Rattle.logical_dag.specs.Scripts.{IsBindable};
 ghost use Rattle.logical_dag.specs.Showing as spec;
 
-use super::making::{column, number, over, pair};
-use crate::{Agg, Dag, GroupArgs, LogicOp, Logical, Output, ScanDecl};
+use super::making::{column, joined, number, over, pair, scan};
+use crate::{Agg, GroupArgs, LogicOp, Logical};
 use col_sets::ColSet;
 use scope_expr::{AggKind, Expr, PairOp};
-use scope_value::{Cell, ColType, Column, Schema};
 use sqlite_items::{Boxed, Items};
 use std::alloc::{AllocError, Global};
 
@@ -37,13 +35,7 @@ fn linking(alloc: Global) -> Result<Expr, AllocError>
 pub fn linked(alloc: Global) -> Result<Logical, AllocError>
     ensures { IfOk result (λ t. tree_of t ≡ spec.linked) }
 {
-    let rows = Logical {
-        op: LogicOp::Scan {
-            scan: 0,
-            cols: four_columns(),
-        },
-        kids: Items::new(alloc),
-    };
+    let rows = scan(alloc, 0, four_columns());
     over(alloc, LogicOp::Filter(linking(alloc)?), rows)
 }
 
@@ -71,51 +63,14 @@ pub fn counted(alloc: Global) -> Result<Logical, AllocError>
     over(alloc, LogicOp::Group(counting(alloc)?), linked(alloc)?)
 }
 
-// A stream of four columns of numbers.
-fn four_numbers(alloc: Global) -> Result<ScanDecl, AllocError>
-    ensures { IfOk result (λ scan. length scan.schema ≡ 4) }
+/// Rows of column 0 with those of columns 1 and 2 that agree in 0 and 1, and these with rows of column 3 that agree in 1
+/// and 3.
+pub fn three_joined(alloc: Global) -> Result<Logical, AllocError>
+    ensures { IfOk result (λ t. tree_of t ≡ spec.three_joined) }
 {
-    let mut schema = Schema::new(alloc);
-    for _ in 0..4u32 {
-        schema.push(Column {
-            name: Cell::from_slice(alloc, b"n")?,
-            kind: ColType::Long,
-        })?;
-    }
-    Ok(ScanDecl {
-        stream: Cell::from_slice(alloc, b"in")?,
-        op: 0,
-        args: Items::new(alloc),
-        schema,
-    })
-}
-
-// The counts as an output.
-fn counts_out(alloc: Global) -> Result<Output, AllocError>
-    ensures tree { IfOk result (λ o. tree_of o.tree ≡ spec.counted) }
-    ensures order { IfOk result (λ o. o.order ≡ None) }
-{
-    let name = Cell::from_slice(alloc, b"out")?;
-    let tree = counted(alloc)?;
-    Ok(Output {
-        name,
-        delimiter: b',',
-        order: None,
-        tree,
-    })
-}
-
-/// A script with this one output.
-pub fn script(alloc: Global) -> Result<Dag, AllocError>
-    ensures { IfOk result IsBindable }
-{
-    let mut scans = Items::new(alloc);
-    scans.push(four_numbers(alloc)?)?;
-    let mut outputs = Items::new(alloc);
-    outputs.push(counts_out(alloc)?)?;
-    Ok(Dag {
-        scans,
-        shared: Items::new(alloc),
-        outputs,
-    })
+    let first = scan(alloc, 0, ColSet::empty().with(0));
+    let second = scan(alloc, 1, ColSet::empty().with(1).with(2));
+    let third = scan(alloc, 2, ColSet::empty().with(3));
+    let two = joined(alloc, 0, 1, first, second)?;
+    joined(alloc, 1, 3, two, third)
 }
