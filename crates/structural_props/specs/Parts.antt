@@ -1,11 +1,11 @@
 -- What schemes and properties say of a list of parts, for any function that gives a key and a number of parts a bucket.
-use Rattle.std.specs.Prelude.{◌≡◌, ℕ, ◌<◌, true, List, [], ◌∷◌, ◌++◌, length, slice_index_or}
+use Rattle.std.specs.Prelude.{◌≡◌, ℕ, ◌<◌, true, List, [], ◌∷◌, ◌++◌, length, slice_index_or, IsPermutation}
 use Rattle.std.specs.declared.cmp.Ordering.TheVariants.{Less}
 use Rattle.scope_value.specs.declared.value.Value.{Value}
 use Rattle.scope_value.specs.Bags.{IsSameBag}
 use Rattle.col_sets.specs.declared.dir.Dir.{Dir}
 use Rattle.structural_props.specs.declared.scheme.Scheme.{Scheme}
-use Rattle.structural_props.specs.declared.scheme.Scheme.TheVariants.{Any, Serial, Hash, Range}
+use Rattle.structural_props.specs.declared.scheme.Scheme.TheVariants.{Any, Serial, Hash, Range, Copies}
 use Rattle.structural_props.specs.declared.scheme.NeedScheme.{NeedScheme}
 use Rattle.structural_props.specs.declared.scheme.NeedScheme.TheVariants as need
 use Rattle.structural_props.specs.declared.property.Delivered.{Delivered}
@@ -22,9 +22,10 @@ abbrev pub joined : List (List (List Value)) → List (List Value)
 joined [] = []
 joined (p ∷ ps) = p ++ joined ps
 
--- the parts together are the bag
-abbrev pub StandFor : List (List (List Value)) → List (List Value) → Type 0
-StandFor parts rows = IsSameBag (joined parts) rows
+-- the parts stand for the bag: copies each by itself, other parts together
+abbrev pub StandFor : Scheme → List (List (List Value)) → List (List Value) → Type 0
+StandFor (Copies k) parts rows = (p : List (List Value)) → In p parts → IsSameBag p rows
+StandFor s parts rows = IsSameBag (joined parts) rows
 
 -- each row lies in the part that is the bucket of its key
 abbrev pub IsByBucket : List ℕ → (List Value → ℕ → ℕ) → ℕ → List ℕ → List (List (List Value)) → Type 0
@@ -38,12 +39,17 @@ IsByRange cols keys parts = (i j : ℕ) (x y : List Value) → i < j → In x (p
 abbrev pub IsTogetherIn : List ℕ → List ℕ → List (List (List Value)) → Type 0
 IsTogetherIn cols g parts = (i j : ℕ) (x y : List Value) → In x (part parts i) → In y (part parts j) → agree cols g x y ≡ true → i ≡ j
 
+-- each part holds the same bag: any two parts are one bag
+abbrev pub AreOneBag : List (List (List Value)) → Type 0
+AreOneBag parts = (p q : List (List Value)) → In p parts → In q parts → IsPermutation p q
+
 -- the parts have the scheme, where n is the partition count
 abbrev pub HasScheme : List ℕ → (List Value → ℕ → ℕ) → ℕ → Scheme → List (List (List Value)) → Type 0
 HasScheme cols bucket n (Any k) parts = length parts ≡ k
 HasScheme cols bucket n Serial parts = length parts ≡ 1
 HasScheme cols bucket n (Hash key) parts = (length parts ≡ n) × IsByBucket cols bucket n key parts
 HasScheme cols bucket n (Range keys) parts = (length parts ≡ n) × IsByRange cols keys parts
+HasScheme cols bucket n (Copies k) parts = (length parts ≡ k) × AreOneBag parts
 
 -- the parts are dealt out as is needed
 abbrev pub MeetsNeed : List ℕ → (List Value → ℕ → ℕ) → ℕ → NeedScheme → List (List (List Value)) → Type 0
@@ -51,6 +57,7 @@ MeetsNeed cols bucket n need.None parts = Unit {0}
 MeetsNeed cols bucket n need.OnePartition parts = length parts ≡ 1
 MeetsNeed cols bucket n (need.Together g) parts = IsTogetherIn cols g parts
 MeetsNeed cols bucket n (need.HashExact key) parts = HasScheme cols bucket n (Hash key) parts
+MeetsNeed cols bucket n (need.Copies k) parts = HasScheme cols bucket n (Copies k) parts
 
 -- the parts have the scheme, and each has the local actions
 pub record HasDelivered (cols : List ℕ) (bucket : List Value → ℕ → ℕ) (n : ℕ) (have : Delivered) (parts : List (List (List Value))) : Type 0 where

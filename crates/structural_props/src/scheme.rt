@@ -12,12 +12,14 @@ pub enum Scheme {
     Hash(KeyCols),
     /// As many parts as the partition count, each row of an earlier part strictly before each row of a later one.
     Range(KeyOrders),
+    /// That many parts, two or more, each of which holds the same bag.
+    Copies(u32),
 }
 
 /// What is asked of how rows were dealt out.
 #[derive(Clone, Copy, Debug, PartialEq, Eq)]
 pub enum NeedScheme {
-    /// Nothing.
+    /// Nothing of the parts themselves: they may be of any scheme but Copies.
     None,
     /// One part.
     OnePartition,
@@ -25,4 +27,6 @@ pub enum NeedScheme {
     Together(ColSet),
     /// Each row lies in the part of the bucket of just this key.
     HashExact(KeyCols),
+    /// That many parts, two or more, each of which holds the same bag.
+    Copies(u32),
 }
