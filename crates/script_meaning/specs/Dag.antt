@@ -1,0 +1,80 @@
+-- The Dag of a script.
+use Rattle.std.specs.Prelude.{ℕ, ◌+◌, ◌==◌, ◌||◌, if◌then◌else◌, List, [], ◌∷◌, ◌++◌, map, filter, flat_map, length, Option, Some, None, slice_get, option_map}
+use Rattle.std.specs.Option.{option_map_or}
+use Rattle.std.specs.List.{range_with_len, position_or_len}
+use Rattle.col_sets.specs.declared.dir.Dir.{Dir}
+use Rattle.col_sets.specs.Sets.{has}
+use Rattle.logical_dag.specs.declared.dag.ScanDecl.{ScanDecl}
+use Rattle.logical_dag.specs.Tree.{Expression}
+use Rattle.script_meaning.specs.Script.{Statement, Command, output, gives}
+use Rattle.script_meaning.specs.Part.{Part, nothing, number}
+use Rattle.script_meaning.specs.Bound.{parts_of}
+
+abbrev pub or_nothing : Option Part → Part
+or_nothing None = nothing
+or_nothing (Some b) = b
+
+abbrev pub part_at : List Part → ℕ → Part
+part_at env k = or_nothing (slice_get env k)
+
+-- the numbers of the OUTPUTs
+abbrev pub outputs_from : ℕ → List Statement → List ℕ
+outputs_from k [] = []
+outputs_from k (s ∷ rest) = if gives s.command then outputs_from (k + 1) rest else k ∷ outputs_from (k + 1) rest
+
+-- the results that the outputs reach through the trees of the parts from number n on
+abbrev pub reached : List ℕ → ℕ → List Part → List ℕ
+reached outs n [] = []
+reached outs n (b ∷ rest) =
+    let later = reached outs (n + 1) rest in
+    if has outs n || has later n then later ++ b.refs else later
+
+-- the shared trees of the Dag, by their statements, in order
+abbrev pub kept_of : List ℕ → List Part → List ℕ
+kept_of outs env = filter (has (reached outs 0 env)) (range_with_len 0 (length env))
+
+-- a shared result's number in the Dag
+abbrev pub place_in : List ℕ → ℕ → ℕ
+place_in kept k = position_or_len (λ x. x == k) kept
+
+-- the scans of these statements' trees, in tree order
+abbrev pub scans_of_all : List Part → List ℕ → List ScanDecl
+scans_of_all env ks = flat_map (λ k. (part_at env k).scans) ks
+
+-- their trees, the scans being numbered from s on through all of them, and the columns of each from 0
+abbrev pub trees_from : (ℕ → ℕ) → List Part → ℕ → List ℕ → List Expression
+trees_from name env s [] = []
+trees_from name env s (k ∷ ks) = (part_at env k).tree name s 0 ∷ trees_from name env (s + length (part_at env k).scans) ks
+
+abbrev pub stream_in : Command → List ℕ
+stream_in (output source stream) = stream
+stream_in c = []
+
+abbrev pub stream_at : List Statement → ℕ → List ℕ
+stream_at script k = option_map_or (λ s. stream_in s.command) (slice_get script k) []
+
+-- an ORDER BY in the columns of the output's tree
+abbrev pub column_order : Part → Option (List (ℕ × Dir))
+column_order b = option_map (map (λ k. (number b 0 k.0, k.1))) b.order
+
+pub record ScriptDag : Type 0 where
+  pub scans : List ScanDecl
+  pub shared : List Expression
+  pub streams : List (List ℕ)
+  pub orders : List (Option (List (ℕ × Dir)))
+  pub outputs : List Expression
+
+abbrev pub dag_at : List Statement → List Part → List ℕ → List ℕ → ScriptDag
+dag_at script env outs kept = record {
+  scans = scans_of_all env kept ++ scans_of_all env outs;
+  shared = trees_from (place_in kept) env 0 kept;
+  streams = map (stream_at script) outs;
+  orders = map (λ k. column_order (part_at env k)) outs;
+  outputs = trees_from (place_in kept) env (length (scans_of_all env kept)) outs;
+}
+
+abbrev pub outs_of : List Statement → List ℕ
+outs_of script = outputs_from 0 script
+
+abbrev pub dag_of : List Statement → ScriptDag
+dag_of script = dag_at script (parts_of script) (outs_of script) (kept_of (outs_of script) (parts_of script))

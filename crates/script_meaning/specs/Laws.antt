@@ -1,0 +1,88 @@
+-- What the Dag of a script gives, and that it is what the script means.
+use Rattle.std.specs.Prelude.{◌≡◌, ◌≤◌, ◌+◌, ℕ, if◌then◌else◌, List, [], ◌∷◌, ◌++◌, map, flat_map, length, Option, None, slice_get, IsPermutation}
+use Rattle.col_sets.specs.declared.dir.Dir.{Dir}
+use Rattle.user_ops.specs.Told.{Operators, combines_at}
+use Rattle.logical_dag.specs.declared.dag.ScanDecl.{ScanDecl}
+use Rattle.logical_dag.specs.Tree.{Expression, columns_of}
+use Rattle.logical_dag.specs.declared.args.CallArgs.{CallArgs}
+use Rattle.logical_dag.specs.Rows.{Bag, agree_on, combined}
+use Rattle.logical_dag.specs.Meaning.{Sources, StandsFor}
+use Rattle.script_meaning.specs.Script.{Call, Side, Beside, inners, outer, Command, select, Statement}
+use Rattle.script_meaning.specs.Meaning.{Table, or_no_table, source_rows, keeps_left, keeps_right, nulls, outer_bag, result, results, places, in_order_opt}
+use Rattle.script_meaning.specs.Bound.{parts_of}
+use Rattle.script_meaning.specs.Dag.{part_at, ScriptDag, dag_of, outs_of}
+
+-- the bags stand for the trees, one for each
+abbrev pub AllStand : Operators → Sources → List Expression → List Bag → Type 0
+AllStand ops from [] [] = Unit {0}
+AllStand ops from (t ∷ trees) (B ∷ bags) = StandsFor ops from t B × AllStand ops from trees bags
+AllStand ops from trees bags = ⊥
+
+-- a bag stands for the tree of each output, and these are its rows, in the output's order if it has one
+abbrev pub Writes : Operators → Sources → List (Option (List (ℕ × Dir))) → List Expression → List Bag → Type 0
+Writes ops from [] [] [] = Unit {0}
+Writes ops from (o ∷ orders) (t ∷ trees) (W ∷ rows) =
+    ((B : Bag) × StandsFor ops from t B × (in_order_opt o (columns_of t) B ≡ W)) × Writes ops from orders trees rows
+Writes ops from orders trees rows = ⊥
+
+-- the Dag gives these rows to its outputs: there are bags of its shared trees, over which they are
+abbrev pub sources : (ScanDecl → Bag) → ScriptDag → List Bag → Sources
+sources input d shared = record { scans = map input d.scans; shared = shared }
+
+abbrev pub Gives : Operators → (ScanDecl → Bag) → ScriptDag → List Bag → Type 0
+Gives ops input d rows =
+    (shared : List Bag) × AllStand ops (sources input d shared) d.shared shared × Writes ops (sources input d shared) d.orders d.outputs rows
+
+-- the results of a script's statements, and what its OUTPUTs are to write
+abbrev pub table_at : List Table → ℕ → Table
+table_at done k = or_no_table (slice_get done k)
+
+abbrev pub written_at : List Table → ℕ → Bag
+written_at done k = let A = table_at done k in in_order_opt A.order (places A.width) A.rows
+
+abbrev pub results_of : Operators → (ScanDecl → Bag) → List Statement → List Table
+results_of ops input script = results ops input [] [] script
+
+abbrev pub meaning : Operators → (ScanDecl → Bag) → List Statement → List Bag
+meaning ops input script = map (written_at (results_of ops input script)) (outs_of script)
+
+-- what the combiner of an outer join gives for the rows of a key: with both sides present each left row followed by each
+-- right row; where one is missing, the rows of the other, if that side is kept, beside as many nulls as the first has columns
+abbrev pub outer_pairs : Side → ℕ → ℕ → Bag → Bag → Bag
+outer_pairs side m n [] B = if keeps_right side then map (λ s. nulls m ++ s) B else []
+outer_pairs side m n (r ∷ A) [] = if keeps_left side then map (λ r. r ++ nulls n) (r ∷ A) else []
+outer_pairs side m n (r ∷ A) (s ∷ B) = flat_map (λ r. map (λ s. r ++ s) (s ∷ B)) (r ∷ A)
+
+-- the combiner that is called for an outer join gives these, and the call has the columns of both sides
+pub record IsOuterCall (ops : Operators) (side : Side) (call : Call) (m n : ℕ) : Type 0 where
+  pub columns : length call.output ≡ m + n
+  pub gives : (A B : Bag) → combines_at ops call.op call.args A B ≡ outer_pairs side m n A B
+
+abbrev pub IsBesideTold : Operators → (ScanDecl → Bag) → List Statement → List Table → Table → Beside → Type 0
+IsBesideTold ops input earlier done A (inners joins) = Unit {0}
+IsBesideTold ops input earlier done A (outer side call j) = IsOuterCall ops side call A.width (source_rows input earlier done j.source).width
+
+abbrev pub IsCommandTold : Operators → (ScanDecl → Bag) → List Statement → List Table → Command → Type 0
+IsCommandTold ops input earlier done (select q) = IsBesideTold ops input earlier done (source_rows input earlier done q.source) q.beside
+IsCommandTold ops input earlier done c = Unit {0}
+
+-- so it is for each outer join of a script
+abbrev pub AreOuterTold : Operators → (ScanDecl → Bag) → List Statement → List Table → List Statement → Type 0
+AreOuterTold ops input earlier done [] = Unit {0}
+AreOuterTold ops input earlier done (s ∷ rest) =
+    IsCommandTold ops input earlier done s.command × AreOuterTold ops input (earlier ++ s ∷ []) (done ++ result ops input earlier done s.command ∷ []) rest
+
+-- no tree numbers more than 128 columns
+abbrev pub FitsColumns : List Statement → Type 0
+FitsColumns script = (k : ℕ) → (part_at (parts_of script) k).count ≤ 128
+
+-- the Dag of a script gives what the script means
+abbrev pub GivesMeaning : Type 0
+GivesMeaning = (ops : Operators) (input : ScanDecl → Bag) (script : List Statement) → FitsColumns script → AreOuterTold ops input [] [] script
+    → Gives ops input (dag_of script) (meaning ops input script)
+
+-- over any rows and columns, the Combine of an outer join gives the outer join
+abbrev pub GivesOuterJoin : Type 0
+GivesOuterJoin = (ops : Operators) (side : Side) (call : CallArgs) (on : List (ℕ × ℕ)) (left right : List ℕ) (m n : ℕ) (A B : Bag)
+    → ((C D : Bag) → combines_at ops call.op call.args C D ≡ outer_pairs side m n C D)
+    → IsPermutation (combined ops left right call on None None A B) (outer_bag side (agree_on on left right) m n A B)
