@@ -1,0 +1,4 @@
+pub mod Linked
+pub mod Represent
+pub mod Sound
+pub mod Whole
