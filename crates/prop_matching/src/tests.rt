@@ -13,9 +13,9 @@ struct Case<'a> {
     answer: bool,
 }
 
-fn set_of(cols: &[ColId]) -> ColSet {
+fn set_of<const N: usize>(cols: [ColId; N]) -> ColSet {
     let mut set = ColSet::empty();
-    for c in cols {
+    for c in &cols {
         set = set.with(*c);
     }
     set
@@ -33,15 +33,15 @@ fn orders_of(first: ColId, second: ColId) -> KeyOrders {
     keys
 }
 
-fn acts(actions: &[Action]) -> Local {
+fn acts<const N: usize>(actions: [Action; N]) -> Local {
     let mut local = Local::new();
-    for action in actions {
+    for action in &actions {
         let _room = local.push(*action);
     }
     local
 }
 
-fn group(cols: &[ColId]) -> Action {
+fn group<const N: usize>(cols: [ColId; N]) -> Action {
     Action::Group(set_of(cols))
 }
 
@@ -53,7 +53,7 @@ fn down(c: ColId) -> Action {
     Action::Order(c, Dir::Down)
 }
 
-fn together(cols: &[ColId]) -> NeedScheme {
+fn together<const N: usize>(cols: [ColId; N]) -> NeedScheme {
     NeedScheme::Together(set_of(cols))
 }
 
@@ -107,22 +107,22 @@ fn kept_together<'a>(
 ) -> [Case<'a>; 10] {
     [
         // A key within the group's columns keeps the group in one part, a wider one may part it.
-        dealt(plain, hash(2), together(&[2, 5]), true),
-        dealt(plain, Scheme::Hash(key_of(2, 5)), together(&[2]), false),
-        dealt(constant, Scheme::Hash(key_of(2, 5)), together(&[2]), true),
-        dealt(determined, hash(2), together(&[1]), true),
-        dealt(determined, hash(1), together(&[2]), false),
-        dealt(plain, Scheme::Serial, together(&[2]), true),
-        dealt(plain, Scheme::Any(4), together(&[2]), false),
+        dealt(plain, hash(2), together([2, 5]), true),
+        dealt(plain, Scheme::Hash(key_of(2, 5)), together([2]), false),
+        dealt(constant, Scheme::Hash(key_of(2, 5)), together([2]), true),
+        dealt(determined, hash(2), together([1]), true),
+        dealt(determined, hash(1), together([2]), false),
+        dealt(plain, Scheme::Serial, together([2]), true),
+        dealt(plain, Scheme::Any(4), together([2]), false),
         // Of a range only the columns count, whatever their directions.
         dealt(
             plain,
             Scheme::Range(orders_of(2, 3)),
-            together(&[2, 3]),
+            together([2, 3]),
             true,
         ),
-        dealt(plain, Scheme::Range(orders_of(2, 3)), together(&[3]), false),
-        dealt(equal, Scheme::Range(orders_of(2, 3)), together(&[3]), true),
+        dealt(plain, Scheme::Range(orders_of(2, 3)), together([3]), false),
+        dealt(equal, Scheme::Range(orders_of(2, 3)), together([3]), true),
     ]
 }
 
@@ -177,7 +177,7 @@ fn parts_and_copies(plain: &Facts) -> [Case<'_>; 13] {
         dealt(plain, Scheme::Copies(4), NeedScheme::Copies(4), true),
         dealt(plain, Scheme::Copies(4), NeedScheme::Copies(2), false),
         dealt(plain, Scheme::Copies(4), NeedScheme::OnePartition, false),
-        dealt(plain, Scheme::Copies(4), together(&[2]), false),
+        dealt(plain, Scheme::Copies(4), together([2]), false),
         dealt(plain, Scheme::Copies(4), exact(2), false),
         dealt(plain, Scheme::Any(4), NeedScheme::Copies(4), false),
         dealt(plain, Scheme::Serial, NeedScheme::Copies(2), false),
@@ -189,39 +189,39 @@ fn parts_and_copies(plain: &Facts) -> [Case<'_>; 13] {
 fn grouped<'a>(triple: &'a Facts, implied: &'a Facts, fixed: &'a Facts) -> [Case<'a>; 12] {
     [
         // Orders group by their columns, from the left.
-        ordered(triple, acts(&[up(1), up(2)]), acts(&[group(&[1, 2])]), true),
-        ordered(triple, acts(&[up(1), up(2)]), acts(&[group(&[2])]), false),
-        ordered(triple, acts(&[up(1)]), acts(&[group(&[1, 2])]), false),
-        ordered(implied, acts(&[up(1)]), acts(&[group(&[1, 2])]), true),
-        ordered(fixed, acts(&[up(1), up(2)]), acts(&[group(&[2])]), true),
+        ordered(triple, acts([up(1), up(2)]), acts([group([1, 2])]), true),
+        ordered(triple, acts([up(1), up(2)]), acts([group([2])]), false),
+        ordered(triple, acts([up(1)]), acts([group([1, 2])]), false),
+        ordered(implied, acts([up(1)]), acts([group([1, 2])]), true),
+        ordered(fixed, acts([up(1), up(2)]), acts([group([2])]), true),
         ordered(
             triple,
-            acts(&[up(1), down(2), up(3)]),
-            acts(&[group(&[1, 2]), up(3)]),
+            acts([up(1), down(2), up(3)]),
+            acts([group([1, 2]), up(3)]),
             true,
         ),
         ordered(
             triple,
-            acts(&[up(1), up(2), up(3)]),
-            acts(&[group(&[1, 3])]),
+            acts([up(1), up(2), up(3)]),
+            acts([group([1, 3])]),
             false,
         ),
         ordered(
             implied,
-            acts(&[up(1), up(2), up(3)]),
-            acts(&[group(&[1, 3])]),
+            acts([up(1), up(2), up(3)]),
+            acts([group([1, 3])]),
             true,
         ),
         // A wider group may part a narrower one, and a group orders nothing.
-        ordered(triple, acts(&[group(&[1, 2])]), acts(&[group(&[1])]), false),
-        ordered(implied, acts(&[group(&[1, 2])]), acts(&[group(&[1])]), true),
+        ordered(triple, acts([group([1, 2])]), acts([group([1])]), false),
+        ordered(implied, acts([group([1, 2])]), acts([group([1])]), true),
         ordered(
             triple,
-            acts(&[group(&[1]), up(2)]),
-            acts(&[group(&[1, 2])]),
+            acts([group([1]), up(2)]),
+            acts([group([1, 2])]),
             true,
         ),
-        ordered(triple, acts(&[group(&[1])]), acts(&[up(1)]), false),
+        ordered(triple, acts([group([1])]), acts([up(1)]), false),
     ]
 }
 
@@ -229,17 +229,17 @@ fn grouped<'a>(triple: &'a Facts, implied: &'a Facts, fixed: &'a Facts) -> [Case
 fn in_order<'a>(triple: &'a Facts, same: &'a Facts, fixed: &'a Facts) -> [Case<'a>; 10] {
     [
         // An Order is met by one of the same direction and an equal column.
-        ordered(triple, acts(&[down(2)]), acts(&[up(2)]), false),
-        ordered(triple, acts(&[up(3)]), acts(&[up(2)]), false),
-        ordered(same, acts(&[up(3)]), acts(&[up(2)]), true),
-        ordered(triple, acts(&[up(2), up(1)]), acts(&[up(1), up(2)]), false),
-        ordered(triple, acts(&[up(1)]), acts(&[up(1), down(1)]), true),
+        ordered(triple, acts([down(2)]), acts([up(2)]), false),
+        ordered(triple, acts([up(3)]), acts([up(2)]), false),
+        ordered(same, acts([up(3)]), acts([up(2)]), true),
+        ordered(triple, acts([up(2), up(1)]), acts([up(1), up(2)]), false),
+        ordered(triple, acts([up(1)]), acts([up(1), down(1)]), true),
         // What is fixed is dropped, on either side.
-        ordered(fixed, acts(&[]), acts(&[down(1)]), true),
-        ordered(fixed, acts(&[up(1), up(2)]), acts(&[up(2)]), true),
-        ordered(triple, acts(&[]), acts(&[up(1)]), false),
-        ordered(triple, acts(&[up(1)]), acts(&[]), true),
-        ordered(triple, acts(&[up(1)]), acts(&[group(&[])]), true),
+        ordered(fixed, acts([]), acts([down(1)]), true),
+        ordered(fixed, acts([up(1), up(2)]), acts([up(2)]), true),
+        ordered(triple, acts([]), acts([up(1)]), false),
+        ordered(triple, acts([up(1)]), acts([]), true),
+        ordered(triple, acts([up(1)]), acts([group([])]), true),
     ]
 }
 
@@ -247,28 +247,28 @@ fn in_order<'a>(triple: &'a Facts, same: &'a Facts, fixed: &'a Facts) -> [Case<'
 fn rest<'a>(pair: &'a Facts, triple: &'a Facts) -> [Case<'a>; 9] {
     [
         // Rest is met by Rest, or where all columns are fixed, and groups by all columns.
-        ordered(pair, acts(&[Action::Rest]), acts(&[group(&[1, 2])]), true),
+        ordered(pair, acts([Action::Rest]), acts([group([1, 2])]), true),
         ordered(
             pair,
-            acts(&[Action::Rest]),
-            acts(&[group(&[1, 2]), down(1)]),
+            acts([Action::Rest]),
+            acts([group([1, 2]), down(1)]),
             true,
         ),
-        ordered(pair, acts(&[Action::Rest]), acts(&[group(&[1])]), false),
-        ordered(pair, acts(&[Action::Rest]), acts(&[group(&[3])]), false),
-        ordered(pair, acts(&[Action::Rest]), acts(&[up(1)]), false),
-        ordered(pair, acts(&[Action::Rest]), acts(&[Action::Rest]), true),
-        ordered(pair, acts(&[up(1), up(2)]), acts(&[Action::Rest]), false),
+        ordered(pair, acts([Action::Rest]), acts([group([1])]), false),
+        ordered(pair, acts([Action::Rest]), acts([group([3])]), false),
+        ordered(pair, acts([Action::Rest]), acts([up(1)]), false),
+        ordered(pair, acts([Action::Rest]), acts([Action::Rest]), true),
+        ordered(pair, acts([up(1), up(2)]), acts([Action::Rest]), false),
         ordered(
             pair,
-            acts(&[up(1), up(2)]),
-            acts(&[up(1), up(2), Action::Rest]),
+            acts([up(1), up(2)]),
+            acts([up(1), up(2), Action::Rest]),
             true,
         ),
         ordered(
             triple,
-            acts(&[up(1), Action::Rest]),
-            acts(&[group(&[1]), Action::Rest]),
+            acts([up(1), Action::Rest]),
+            acts([group([1]), Action::Rest]),
             true,
         ),
     ]
@@ -286,14 +286,14 @@ fn first_wrong(cases: &[Case<'_>]) -> Option<usize> {
 
 #[test]
 fn properties_are_matched_as_worked_out(rt: HostRuntime) {
-    let plain = Facts::of_columns(set_of(&[1, 2, 3, 5]));
+    let plain = Facts::of_columns(set_of([1, 2, 3, 5]));
     let constant = plain.with_constant(5);
     let constants = constant.with_constant(2);
-    let determined = plain.with_dependency(set_of(&[1]), 2);
+    let determined = plain.with_dependency(set_of([1]), 2);
     let equal = plain.with_equal(2, 3);
-    let pair = Facts::of_columns(set_of(&[1, 2]));
-    let triple = Facts::of_columns(set_of(&[1, 2, 3]));
-    let implied = triple.with_dependency(set_of(&[1]), 2);
+    let pair = Facts::of_columns(set_of([1, 2]));
+    let triple = Facts::of_columns(set_of([1, 2, 3]));
+    let implied = triple.with_dependency(set_of([1]), 2);
     let same = triple.with_equal(2, 3);
     let fixed = triple.with_constant(1);
     let wrong = [
