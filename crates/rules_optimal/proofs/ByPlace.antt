@@ -20,7 +20,7 @@ use Rattle.logical_dag.proofs.RowValues.{in_list, list_in}
 use Rattle.logical_dag.proofs.Leaves.{AreApart, apart_left, apart_right, apart_permuted}
 use Rattle.logical_dag.proofs.JoinFacts.{join_formed}
 use Rattle.logical_dag.proofs.Blocks.{block_apart}
-use Rattle.rules_steps.specs.Steps.{Pairs, IsDealt, Reaches, here, stays, after}
+use Rattle.rules_steps.specs.Steps.{Pairs, IsDealt, Reaches, here, after}
 use Rattle.rules_steps.specs.Steps as steps
 use Rattle.rules_facts.proofs.Known.{facts_kept}
 use Rattle.rules_places.specs.Space.{is_join, is_block}

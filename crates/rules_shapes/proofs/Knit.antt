@@ -16,7 +16,7 @@ use Rattle.logical_dag.proofs.RowValues.{in_list, list_in}
 use Rattle.rules_steps.specs.Steps.{Pairs, IsDealt}
 use Rattle.rules_steps.proofs.Kept.{reached_same}
 use Rattle.rules_places.specs.Space as space
-use Rattle.rules_places.specs.Space.{is_join, is_block, IsSpace, IsGrown}
+use Rattle.rules_places.specs.Space.{is_block, IsSpace, IsGrown}
 use Rattle.rules_places.proofs.Grown.{AreLeaves, on_left_leaves, on_right_leaves}
 use Rattle.rules_space.specs.Tree as shape
 use Rattle.rules_space.specs.declared.kind.Kind.TheVariants as kind
