@@ -12,7 +12,7 @@ use Rattle.scope_expr.specs.declared.scope.Entry.{Entry}
 use Rattle.scope_expr.specs.declared.scope.Scope.{Scope}
 use Rattle.scope_expr.specs.declared.scope.TypeFault.{TypeFault}
 use Rattle.scope_expr.specs.Names.{typed}
-use Rattle.scope_syntax.specs.declared.item.Item.{Item}
+use Rattle.expression_syntax.specs.declared.item.Item.{Item}
 use Rattle.scope_app.specs.Pipeline.{are_new, entries_from, typed_items, with_expr}
 
 pub new_step : {X : Type 0} (name : X → List ℕ) (xs : List X) (i : ℕ) (x : X) → i < length xs → x ≡ get_or xs i x → list_any (λ y. bytes_eq (name y) (name x)) (take i xs) ≡ false

@@ -11,19 +11,19 @@ use Rattle.scope_expr.specs.declared.scope.Scope.{Scope}
 use Rattle.scope_expr.specs.declared.scope.TypeFault.{TypeFault}
 use Rattle.scope_expr.specs.Kinds.{takes_truth}
 use Rattle.scope_expr.specs.Names.{typed}
-use Rattle.scope_syntax.specs.declared.call.Call.{Call}
+use Rattle.expression_syntax.specs.declared.call.Call.{Call}
 use Rattle.scope_syntax.specs.declared.command.Command.{Command}
 use Rattle.scope_syntax.specs.declared.command.Command.TheVariants.{Extract, Select, Output}
-use Rattle.scope_syntax.specs.declared.item.Item.{Item}
-use Rattle.scope_syntax.specs.declared.item.Items.{Items}
-use Rattle.scope_syntax.specs.declared.item.Items.TheVariants.{All, Listed}
+use Rattle.expression_syntax.specs.declared.item.Item.{Item}
+use Rattle.expression_syntax.specs.declared.item.Items.{Items}
+use Rattle.expression_syntax.specs.declared.item.Items.TheVariants.{All, Listed}
 use Rattle.scope_syntax.specs.declared.script.Script.{Script}
 use Rattle.scope_syntax.specs.declared.script.Statement.{Statement}
 use Rattle.scope_syntax.specs.declared.select.Joined.{Joined}
 use Rattle.scope_syntax.specs.declared.select.Select as select
-use Rattle.scope_syntax.specs.declared.source.Source.{Source}
-use Rattle.scope_syntax.specs.declared.source.Origin.{Origin}
-use Rattle.scope_syntax.specs.declared.source.Origin.TheVariants.{Named}
+use Rattle.expression_syntax.specs.declared.source.Source.{Source}
+use Rattle.expression_syntax.specs.declared.source.Origin.{Origin}
+use Rattle.expression_syntax.specs.declared.source.Origin.TheVariants.{Named}
 use Rattle.scope_app.specs.declared.pipeline.Pipeline.{Pipeline}
 use Rattle.scope_app.specs.declared.pipeline.Selection.{Selection}
 use Rattle.scope_app.specs.declared.pipeline.Extraction.{Extraction}

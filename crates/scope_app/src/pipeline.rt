@@ -14,7 +14,7 @@ use std::alloc::{AllocError, Global};
 pub const MAX_COLUMNS: usize = 128;
 
 /// Which rows a SELECT keeps, all where there is no predicate, and the columns that it gives of each.
-#[derive(Debug, Drop)]
+#[derive(Drop)]
 pub struct Selection {
     pub filter: Option<Expr>,
     pub items: Sequence<Expr>,
@@ -22,7 +22,7 @@ pub struct Selection {
 
 /// What a script that runs does: the columns that are extracted from a stream by a call of an extractor, what is selected of their rows, and
 /// the stream that the rows are output to.
-#[derive(Debug, Drop)]
+#[derive(Drop)]
 pub struct Pipeline {
     pub columns: Schema,
     pub stream: Cell,
@@ -32,7 +32,7 @@ pub struct Pipeline {
 }
 
 // An EXTRACT under the name of its result.
-#[derive(Debug, Drop)]
+#[derive(Drop)]
 struct Extraction {
     name: Cell,
     columns: Schema,
@@ -41,7 +41,7 @@ struct Extraction {
 }
 
 // An OUTPUT of a named result.
-#[derive(Debug, Drop)]
+#[derive(Drop)]
 struct Outlet {
     name: Cell,
     stream: Cell,

@@ -14,7 +14,7 @@ use user_ops::{Extractor, OpSet, Tells};
 
 /// What is to be done for a text: it is none, it is outside the language, it is no script that runs yet, or it runs so, by the extractor at
 /// that place.
-#[derive(Debug, Drop)]
+#[derive(Drop)]
 pub enum Plan {
     NotText,
     Fault(ScriptPlace),

@@ -1,26 +1,27 @@
 -- PROCESS, REDUCE, COMBINE and OUTPUT are read exactly, each behind its first word.
 use Rattle.std.proofs.Common.{◌≡◌, ℕ, Bool, true, false, List, [], ◌∷◌, ◌++◌, Option, Some, None, refl, sym, ap, ◌∙◌, append_assoc}
 use Rattle.scope_value.specs.declared.schema.Column.{Column}
-use Rattle.scope_syntax.specs.declared.call.Call.{Call}
+use Rattle.expression_syntax.specs.declared.call.Call.{Call}
 use Rattle.scope_syntax.specs.declared.command.Command.{Command}
 use Rattle.scope_syntax.specs.declared.command.Command.TheVariants.{Extract, Select, Process, Reduce, Combine, Output}
-use Rattle.scope_syntax.specs.declared.key.RawKey.{RawKey}
-use Rattle.scope_syntax.specs.declared.keyword.Keyword.{Keyword}
-use Rattle.scope_syntax.specs.declared.keyword.Keyword.TheVariants as word
-use Rattle.scope_syntax.specs.declared.raw_agg.RawAgg.{RawAgg}
-use Rattle.scope_syntax.specs.declared.source.Origin.{Origin}
-use Rattle.scope_syntax.specs.declared.source.Origin.TheVariants.{Named, Stream}
-use Rattle.scope_syntax.specs.declared.source.Source.{Source}
-use Rattle.scope_syntax.specs.Lexemes.{Lexeme, keyword, symbol, name, number, text, is_keyword}
-use Rattle.scope_syntax.specs.Statements.{SpellsAfter, SpellsCommand, SpellsInput, SpellsKeys, SpellsName, SpellsOptional, SpellsOrigin, SpellsPresort, SpellsProduct, SpellsSource, is_and, is_comma}
-use Rattle.scope_syntax.specs.Reading.{Cursor, Parser, begins, expect, pure, take_name, take_one}
-use Rattle.scope_syntax.specs.ReadParts.{call, column, equality, key, list, optional, reference, source}
-use Rattle.scope_syntax.specs.ReadCommands.{begins_source, combine, input, is_name, output, presort, process, produced, read_if, reduce, take_text, text_from, told}
-use Rattle.scope_syntax.proofs.Closed.{Closed, option_first}
-use Rattle.scope_syntax.proofs.Exact.{Found, Found-same, IsExact, OptionEnds, optional_exact, word_read}
-use Rattle.scope_syntax.proofs.Forward.{at, expect_yes, take_known}
-use Rattle.scope_syntax.proofs.PartLaws.{Any, call_exact, columns_exact, equalities_exact, keys_exact, name_exact, refs_exact, source_exact}
-use Rattle.scope_syntax.proofs.Steps.{Takes, expect_begins, some_same, take_takes, twice, up_to}
+use Rattle.expression_syntax.specs.declared.key.RawKey.{RawKey}
+use Rattle.expression_syntax.specs.declared.keyword.Keyword.{Keyword}
+use Rattle.expression_syntax.specs.declared.keyword.Keyword.TheVariants as word
+use Rattle.expression_syntax.specs.declared.raw_agg.RawAgg.{RawAgg}
+use Rattle.expression_syntax.specs.declared.source.Origin.{Origin}
+use Rattle.expression_syntax.specs.declared.source.Origin.TheVariants.{Named, Stream}
+use Rattle.expression_syntax.specs.declared.source.Source.{Source}
+use Rattle.expression_syntax.specs.Lexemes.{Lexeme, keyword, symbol, name, number, text, is_keyword}
+use Rattle.expression_syntax.specs.Parts.{SpellsAfter, SpellsKeys, SpellsName, SpellsOptional, SpellsOrigin, SpellsSource, is_and, is_comma}
+use Rattle.scope_syntax.specs.Statements.{SpellsCommand, SpellsInput, SpellsPresort, SpellsProduct}
+use Rattle.expression_syntax.specs.Reading.{Cursor, Parser, begins, expect, pure, take_name, take_one}
+use Rattle.expression_syntax.specs.ReadParts.{begins_source, call, column, equality, is_name, key, list, optional, read_if, reference, source, take_text, text_from, told}
+use Rattle.scope_syntax.specs.ReadCommands.{combine, input, output, presort, process, produced, reduce}
+use Rattle.expression_syntax.proofs.Closed.{Closed, option_first}
+use Rattle.expression_syntax.proofs.Exact.{Found, Found-same, IsExact, OptionEnds, optional_exact, word_read}
+use Rattle.expression_syntax.proofs.Forward.{at, expect_yes, take_known}
+use Rattle.expression_syntax.proofs.PartLaws.{Any, call_exact, columns_exact, equalities_exact, keys_exact, name_exact, refs_exact, source_exact}
+use Rattle.expression_syntax.proofs.Steps.{Takes, expect_begins, some_same, take_takes, twice, up_to}
 
 -- ---- strings
 

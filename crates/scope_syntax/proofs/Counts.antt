@@ -3,9 +3,9 @@ use Rattle.std.proofs.Common.{◌≡◌, ◌+◌, ◌≤◌, ◌<◌, ◌^◌, �
 use Rattle.std.proofs.lemmas.List.{length-map}
 use Rattle.scope_lexer.specs.Tokens.{AreInOrder, IsLexed, text_of}
 use Rattle.scope_lexer.specs.declared.token.Token.{Token}
-use Rattle.scope_syntax.specs.declared.terminal.Terminal.{Terminal}
-use Rattle.scope_syntax.specs.Lexemes.{Lexeme, lexeme_of}
-use Rattle.scope_syntax.specs.Terminals.{lexeme_by, lexemes}
+use Rattle.expression_syntax.specs.declared.terminal.Terminal.{Terminal}
+use Rattle.expression_syntax.specs.Lexemes.{lexeme_of}
+use Rattle.expression_syntax.specs.Terminals.{lexeme_by, lexemes}
 
 tokens_few : (low high : ℕ) (ts : List Token) → AreInOrder low high ts → low + length ts ≤ high
 tokens_few low high [] h = omega (arith, h)

@@ -1,9 +1,9 @@
 -- Where the first piece of a script ends.
-use Rattle.std.proofs.Common.{◌≡◌, ◌+◌, ◌≤◌, ◌<◌, ℕ, zero, suc, Bool, true, false, List, [], ◌∷◌, ◌++◌, length, map, take, drop, get_or, ◌-◌, refl, sym, ap, ◌∙◌, arith, add-one}
+use Rattle.std.proofs.Common.{◌≡◌, ◌+◌, ◌≤◌, ◌<◌, ℕ, zero, suc, true, false, List, [], ◌∷◌, length, map, take, drop, get_or, ◌-◌, refl, ap, ◌∙◌, arith, add-one}
 use Rattle.std.proofs.lemmas.List.{take_rest}
 use Rattle.std.specs.List.{onto_first, slice_split}
-use Rattle.scope_syntax.specs.declared.terminal.Terminal.{Terminal}
-use Rattle.scope_syntax.specs.Lexemes.{Lexeme, lexeme_of}
+use Rattle.expression_syntax.specs.declared.terminal.Terminal.{Terminal}
+use Rattle.expression_syntax.specs.Lexemes.{Lexeme, lexeme_of}
 use Rattle.scope_syntax.specs.Statements.{is_end}
 
 -- none of the first terminals ends a statement

@@ -1,26 +1,27 @@
 -- The clauses of SELECT behind its items are read exactly.
 use Rattle.std.proofs.Common.{◌≡◌, ◌≤◌, ℕ, pos, negsuc, zero, suc, Bool, true, false, List, [], ◌∷◌, ◌++◌, length, Option, Some, None, ◌⊎◌, inl, inr, refl, sym, ap, ◌∙◌, arith, subst, append_assoc, append-nil, length-append, if◌then◌else◌}
 use Rattle.scope_expr.specs.declared.raw.RawExpr.{RawExpr}
-use Rattle.scope_syntax.specs.declared.keyword.Keyword.{Keyword}
-use Rattle.scope_syntax.specs.declared.keyword.Keyword.TheVariants as word
-use Rattle.scope_syntax.specs.declared.level.Level.TheVariants as level
-use Rattle.scope_syntax.specs.declared.level.Place.TheVariants as place
-use Rattle.scope_syntax.specs.declared.raw_agg.RawAgg.{RawAgg}
+use Rattle.expression_syntax.specs.declared.keyword.Keyword.{Keyword}
+use Rattle.expression_syntax.specs.declared.keyword.Keyword.TheVariants as word
+use Rattle.expression_syntax.specs.declared.level.Level.TheVariants as level
+use Rattle.expression_syntax.specs.declared.level.Place.TheVariants as place
+use Rattle.expression_syntax.specs.declared.raw_agg.RawAgg.{RawAgg}
 use Rattle.scope_syntax.specs.declared.select.Joined.{Joined}
-use Rattle.scope_syntax.specs.Lexemes.{Lexeme, keyword, symbol, name, number, text, is_keyword}
-use Rattle.scope_syntax.specs.Expressions.{Spells}
-use Rattle.scope_syntax.specs.Statements.{SpellsAfter, SpellsAfterTwo, SpellsCount, SpellsEqualities, SpellsFrom, SpellsJoins, SpellsKeys, SpellsOptional, SpellsPlain, SpellsRefs, SpellsSource, is_and, is_comma}
-use Rattle.scope_syntax.specs.Reading.{Cursor, Parser, ◌>>=◌, ◌>>◌, begins, expect, pure, take_one}
-use Rattle.scope_syntax.specs.ReadExpressions.{whole}
-use Rattle.scope_syntax.specs.ReadParts.{eat_word, equality, expect_word, key, list, optional, reference, source}
+use Rattle.expression_syntax.specs.Lexemes.{Lexeme, keyword, symbol, name, number, text, is_keyword}
+use Rattle.expression_syntax.specs.Expressions.{Spells}
+use Rattle.expression_syntax.specs.Parts.{SpellsAfter, SpellsAfterTwo, SpellsEqualities, SpellsKeys, SpellsOptional, SpellsRefs, SpellsSource, is_and, is_comma}
+use Rattle.scope_syntax.specs.Statements.{SpellsCount, SpellsFrom, SpellsJoins, SpellsPlain}
+use Rattle.expression_syntax.specs.Reading.{Cursor, Parser, ◌>>=◌, ◌>>◌, begins, expect, pure, take_one}
+use Rattle.expression_syntax.specs.ReadExpressions.{whole}
+use Rattle.expression_syntax.specs.ReadParts.{eat_word, equality, expect_word, key, list, optional, reference, source}
 use Rattle.scope_syntax.specs.ReadSelect.{behind, count, count_from, first_source, from, group, join_word, joined, joins, next_join, order, sources, top}
-use Rattle.scope_syntax.proofs.Closed.{Closed, closed_bound, goes_on}
-use Rattle.scope_syntax.proofs.Exact.{Found, Found-same, IsExact, keyword_self, optional_exact, optional_sound, word_read}
-use Rattle.scope_syntax.proofs.ExpressionLaws.{expr_sound, plain_complete, plain_none}
-use Rattle.scope_syntax.proofs.Forward.{at, eat_no, eat_yes, expect_yes, take_known}
-use Rattle.scope_syntax.proofs.PartLaws.{Any, equalities_exact, exact_before, keys_exact, refs_exact, source_exact}
-use Rattle.scope_syntax.proofs.Small.{renumbered}
-use Rattle.scope_syntax.proofs.Steps.{Takes, eat_false, eat_true, expect_begins, some_same, take_takes, twice, up_to}
+use Rattle.expression_syntax.proofs.Closed.{Closed, closed_bound, goes_on}
+use Rattle.expression_syntax.proofs.Exact.{Found, Found-same, IsExact, keyword_self, optional_exact, optional_sound, word_read}
+use Rattle.expression_syntax.proofs.ExpressionLaws.{expr_sound, plain_complete, plain_none}
+use Rattle.expression_syntax.proofs.Forward.{at, eat_no, eat_yes, expect_yes, take_known}
+use Rattle.expression_syntax.proofs.PartLaws.{Any, equalities_exact, exact_before, keys_exact, refs_exact, source_exact}
+use Rattle.expression_syntax.proofs.Small.{renumbered}
+use Rattle.expression_syntax.proofs.Steps.{Takes, eat_false, eat_true, expect_begins, some_same, take_takes, twice, up_to}
 
 -- ---- TOP
 

@@ -2,10 +2,10 @@
 use Rattle.std.proofs.Common.{◌≡◌, ◌+◌, ◌<◌, ◌^◌, ℕ, List, [], ◌∷◌, length, map, Option, Some, None, MatchOption, sym, ap, arith, subst}
 use Rattle.std.specs.List.{slice_split}
 use Rattle.std.specs.Borrow.{Bor}
-use Rattle.scope_syntax.specs.declared.terminal.Terminal.{Terminal}
-use Rattle.scope_syntax.specs.Lexemes.{Lexeme, lexeme_of}
+use Rattle.expression_syntax.specs.declared.terminal.Terminal.{Terminal}
+use Rattle.expression_syntax.specs.Lexemes.{Lexeme, lexeme_of}
 use Rattle.scope_syntax.specs.Statements.{IsFirstFault, is_end, pieces}
-use Rattle.scope_syntax.specs.declared.refusal.Refusal.TheVariants.{Grammar}
+use Rattle.expression_syntax.specs.declared.refusal.Refusal.TheVariants.{Grammar}
 use Rattle.scope_syntax.specs.declared.script.Statement.{Statement}
 use Rattle.scope_syntax.specs.ReadScripts.{Added, ReadSoFar, Refused}
 use Rattle.scope_syntax.proofs.ScriptLaws.{first_fault, one_piece, pieces_cut, pieces_last, so_far_few, with_piece}

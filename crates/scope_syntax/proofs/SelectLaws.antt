@@ -2,27 +2,29 @@
 use Rattle.std.proofs.Common.{◌≡◌, ◌≤◌, ◌^◌, ℕ, Bool, true, false, List, [], ◌∷◌, ◌++◌, length, Option, refl, sym, ap, ◌∙◌, subst, append_assoc, append-nil}
 use Rattle.scope_expr.specs.declared.raw.RawExpr.{RawExpr}
 use Rattle.scope_expr.specs.declared.raw.RawRef.{RawRef}
-use Rattle.scope_syntax.specs.declared.item.Items.{Items}
-use Rattle.scope_syntax.specs.declared.item.Items.TheVariants.{All, Listed}
-use Rattle.scope_syntax.specs.declared.key.RawKey.{RawKey}
-use Rattle.scope_syntax.specs.declared.keyword.Keyword.{Keyword}
-use Rattle.scope_syntax.specs.declared.keyword.Keyword.TheVariants as word
-use Rattle.scope_syntax.specs.declared.raw_agg.RawAgg.{RawAgg}
+use Rattle.expression_syntax.specs.declared.item.Items.{Items}
+use Rattle.expression_syntax.specs.declared.item.Items.TheVariants.{All, Listed}
+use Rattle.expression_syntax.specs.declared.key.RawKey.{RawKey}
+use Rattle.expression_syntax.specs.declared.keyword.Keyword.{Keyword}
+use Rattle.expression_syntax.specs.declared.keyword.Keyword.TheVariants as word
+use Rattle.expression_syntax.specs.declared.raw_agg.RawAgg.{RawAgg}
 use Rattle.scope_syntax.specs.declared.select.Joined.{Joined}
 use Rattle.scope_syntax.specs.declared.select.Select as selects
-use Rattle.scope_syntax.specs.declared.symbol.Symbol.TheVariants as mark
-use Rattle.scope_syntax.specs.Lexemes.{Lexeme, keyword, symbol, is_keyword}
-use Rattle.scope_syntax.specs.Statements.{SpellsAfter, SpellsAfterTwo, SpellsCount, SpellsDistinct, SpellsFrom, SpellsItems, SpellsKeys, SpellsOptional, SpellsPlain, SpellsRefs, SpellsSelect}
-use Rattle.scope_syntax.specs.Reading.{Cursor, begins}
-use Rattle.scope_syntax.specs.ReadParts.{eat_word}
-use Rattle.scope_syntax.specs.ReadSelect.{clauses, filter, from, group, having, items, order, select, take_aggs, top}
-use Rattle.scope_syntax.proofs.Closed.{Closed, goes_on, option_first, option_first_two}
-use Rattle.scope_syntax.proofs.Exact.{Found, Found-same, word_read}
-use Rattle.scope_syntax.proofs.First.{listed_starts, starts, starts_apart}
-use Rattle.scope_syntax.proofs.Forward.{at, eat_no, eat_yes}
+use Rattle.expression_syntax.specs.declared.symbol.Symbol.TheVariants as mark
+use Rattle.expression_syntax.specs.Lexemes.{Lexeme, keyword, symbol, is_keyword}
+use Rattle.expression_syntax.specs.Parts.{SpellsAfter, SpellsAfterTwo, SpellsItems, SpellsKeys, SpellsOptional, SpellsRefs}
+use Rattle.scope_syntax.specs.Statements.{SpellsCount, SpellsDistinct, SpellsFrom, SpellsPlain, SpellsSelect}
+use Rattle.expression_syntax.specs.Reading.{Cursor, begins}
+use Rattle.expression_syntax.specs.ReadParts.{eat_word}
+use Rattle.expression_syntax.specs.ReadItems.{items, take_aggs}
+use Rattle.scope_syntax.specs.ReadSelect.{clauses, filter, from, group, having, order, select, top}
+use Rattle.expression_syntax.proofs.Closed.{Closed, goes_on, option_first, option_first_two}
+use Rattle.expression_syntax.proofs.Exact.{Found, Found-same, word_read}
+use Rattle.expression_syntax.proofs.First.{listed_starts, starts, starts_apart}
+use Rattle.expression_syntax.proofs.Forward.{at, eat_no, eat_yes}
 use Rattle.scope_syntax.proofs.FromLaws.{FromEnds, condition_complete, condition_sound, from_exact, from_first, group_exact, order_exact, top_exact}
-use Rattle.scope_syntax.proofs.ItemLaws.{items_complete, items_sound}
-use Rattle.scope_syntax.proofs.Steps.{eat_false, eat_true, some_same, twice, up_to}
+use Rattle.expression_syntax.proofs.ItemLaws.{items_complete, items_sound}
+use Rattle.expression_syntax.proofs.Steps.{eat_false, eat_true, some_same, twice, up_to}
 
 -- ---- the clauses behind the items
 

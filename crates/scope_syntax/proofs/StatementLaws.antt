@@ -2,31 +2,32 @@
 use Rattle.std.proofs.Common.{◌≡◌, ◌+◌, ◌≤◌, ◌^◌, ℕ, Bool, true, false, List, [], ◌∷◌, ◌++◌, length, Option, Some, None, refl, sym, ap, ◌∙◌, arith, subst, append_assoc, append-nil, length-append, if◌then◌else◌}
 use Rattle.scope_syntax.specs.declared.command.Command.{Command}
 use Rattle.scope_syntax.specs.declared.command.Command.TheVariants.{Extract, Select, Process, Reduce, Combine, Output}
-use Rattle.scope_syntax.specs.declared.item.Item.{Item}
-use Rattle.scope_syntax.specs.declared.item.Items.{Items}
-use Rattle.scope_syntax.specs.declared.item.Items.TheVariants.{All, Listed}
-use Rattle.scope_syntax.specs.declared.keyword.Keyword.{Keyword}
-use Rattle.scope_syntax.specs.declared.keyword.Keyword.TheVariants as word
-use Rattle.scope_syntax.specs.declared.raw_agg.RawAgg.{RawAgg}
+use Rattle.expression_syntax.specs.declared.item.Item.{Item}
+use Rattle.expression_syntax.specs.declared.item.Items.{Items}
+use Rattle.expression_syntax.specs.declared.item.Items.TheVariants.{All, Listed}
+use Rattle.expression_syntax.specs.declared.keyword.Keyword.{Keyword}
+use Rattle.expression_syntax.specs.declared.keyword.Keyword.TheVariants as word
+use Rattle.expression_syntax.specs.declared.raw_agg.RawAgg.{RawAgg}
 use Rattle.scope_syntax.specs.declared.script.Statement.{Statement}
 use Rattle.scope_syntax.specs.declared.select.Select as selects
-use Rattle.scope_syntax.specs.declared.symbol.Symbol.TheVariants as mark
-use Rattle.scope_syntax.specs.Lexemes.{Lexeme, keyword, symbol, name, number, text, is_keyword, is_symbol}
+use Rattle.expression_syntax.specs.declared.symbol.Symbol.TheVariants as mark
+use Rattle.expression_syntax.specs.Lexemes.{Lexeme, keyword, symbol, name, number, text, is_keyword, is_symbol}
+use Rattle.expression_syntax.specs.Parts as parts
 use Rattle.scope_syntax.specs.Statements as g
-use Rattle.scope_syntax.specs.Statements.{SpellsCommand, SpellsItem, SpellsItems, SpellsListed, SpellsSelect, SpellsStatement, can_be_named, is_comma}
-use Rattle.scope_syntax.specs.Reading.{Cursor, Parser, ◌>>=◌, begins, expect, pure, refuse, take_one}
-use Rattle.scope_syntax.specs.ReadCommands.{combine, output, process, reduce, take_text}
-use Rattle.scope_syntax.specs.ReadParts.{call, column, expect_word, list}
+use Rattle.expression_syntax.specs.Parts.{SpellsItem, SpellsItems, SpellsListed, is_comma}
+use Rattle.scope_syntax.specs.Statements.{SpellsCommand, SpellsSelect, SpellsStatement, can_be_named}
+use Rattle.expression_syntax.specs.Reading.{Cursor, Parser, ◌>>=◌, expect, pure, refuse, take_one}
+use Rattle.expression_syntax.specs.ReadParts.{call, column, list, take_text}
 use Rattle.scope_syntax.specs.ReadSelect.{select}
 use Rattle.scope_syntax.specs.ReadStatements.{command, command_from, extract, if_nothing_left, named_statement, read_statement, selection, statement, statement_from, whole_of, with_name, without_name}
-use Rattle.scope_syntax.proofs.Closed.{Closed}
+use Rattle.expression_syntax.proofs.Closed.{Closed}
 use Rattle.scope_syntax.proofs.CommandLaws.{Behind, combine_exact, output_exact, process_exact, reduce_exact, text_exact}
-use Rattle.scope_syntax.proofs.Exact.{Found, Found-same, IsExact, mark_read, word_read}
-use Rattle.scope_syntax.proofs.ExpressionLaws.{aggregates_few}
-use Rattle.scope_syntax.proofs.Forward.{at, expect_yes, take_known}
-use Rattle.scope_syntax.proofs.PartLaws.{call_exact, columns_exact}
-use Rattle.scope_syntax.proofs.SelectLaws.{FoundSelect, select_complete, select_sound}
-use Rattle.scope_syntax.proofs.Steps.{Same, Takes, expect_begins, some_same, take_takes, twice, up_to}
+use Rattle.expression_syntax.proofs.Exact.{Found, Found-same, IsExact, mark_read, word_read}
+use Rattle.expression_syntax.proofs.ExpressionLaws.{aggregates_few}
+use Rattle.expression_syntax.proofs.Forward.{at, expect_yes, take_known}
+use Rattle.expression_syntax.proofs.PartLaws.{call_exact, columns_exact}
+use Rattle.scope_syntax.proofs.SelectLaws.{select_complete, select_sound}
+use Rattle.expression_syntax.proofs.Steps.{Same, expect_begins, some_same, take_takes, twice, up_to}
 
 -- ---- EXTRACT
 
@@ -152,8 +153,8 @@ command_from_complete ts (Output from stream by) h few = to_end _ _ _ output_exa
 -- ---- the number of aggregates
 
 item_few : {n : ℕ} {ts : List Lexeme} {x : Item} {gs : List RawAgg} → SpellsItem n ts x gs → length gs ≤ length ts
-item_few (g.bare r) = omega arith
-item_few (g.named {ts = ts} {c = c} h) = let k = aggregates_few h in omega (arith, k, length-append ts (keyword word.As ∷ name c ∷ []))
+item_few (parts.bare r) = omega arith
+item_few (parts.named {ts = ts} {c = c} h) = let k = aggregates_few h in omega (arith, k, length-append ts (keyword word.As ∷ name c ∷ []))
 
 listed_few : (n : ℕ) (ts : List Lexeme) (xs : List Item) (gs : List RawAgg) → SpellsListed n ts xs gs → length gs ≤ length ts
 listed_few n ts [] gs h = absurd h

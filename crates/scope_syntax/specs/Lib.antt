@@ -1,12 +1,7 @@
-pub mod Lexemes
-pub mod Expressions
+pub use Rattle.expression_syntax.specs.Lexemes
+pub use Rattle.expression_syntax.specs.Terminals
 pub mod Statements
-pub mod Reading
-pub mod ReadExpressions
-pub mod ReadParts
 pub mod ReadSelect
-pub mod Terminals
-pub mod Tables
 pub mod ReadCommands
 pub mod ReadStatements
 pub mod ReadScripts

@@ -1,42 +1,15 @@
 -- Reading of the commands besides SELECT, each behind its first word.
-use Rattle.std.specs.Prelude.{ℕ, Bool, true, false, List, Option, Some, None}
+use Rattle.std.specs.Prelude.{List, Option}
 use Rattle.scope_value.specs.declared.schema.Column.{Column}
-use Rattle.scope_syntax.specs.declared.call.Call.{Call}
+use Rattle.expression_syntax.specs.declared.call.Call.{Call}
 use Rattle.scope_syntax.specs.declared.command.Command.{Command}
 use Rattle.scope_syntax.specs.declared.command.Command.TheVariants.{Process, Reduce, Combine, Output}
-use Rattle.scope_syntax.specs.declared.key.RawKey.{RawKey}
-use Rattle.scope_syntax.specs.declared.keyword.Keyword.TheVariants as word
-use Rattle.scope_syntax.specs.declared.source.Source.{Source}
-use Rattle.scope_syntax.specs.Lexemes.{Lexeme, name, text}
-use Rattle.scope_syntax.specs.Statements.{is_and, is_comma}
-use Rattle.scope_syntax.specs.Reading.{Parser, ◌>>=◌, ◌>>◌, begins, pure, refuse, take_name, take_one}
-use Rattle.scope_syntax.specs.ReadParts.{call, column, equality, expect_word, key, list, optional, reference, source}
-
--- a string
-abbrev pub text_from : Lexeme → Parser (List ℕ)
-text_from (text s) = pure s
-text_from _ = refuse
-
-unfoldable pub take_text : Parser (List ℕ)
-take_text = take_one >>= text_from
-
--- whether a source, or a name, begins with a lexeme
-abbrev pub begins_source : Lexeme → Bool
-begins_source (name c) = true
-begins_source (text s) = true
-begins_source _ = false
-
-abbrev pub is_name : Lexeme → Bool
-is_name (name c) = true
-is_name _ = false
-
--- [x], where the next lexeme tells
-abbrev pub read_if : {A : Type 0} → Parser A → Bool → Parser (Option A)
-read_if item true = item >>= (λ x. pure (Some x))
-read_if item false = pure None
-
-unfoldable pub told : {A : Type 0} → (Lexeme → Bool) → Parser A → Parser (Option A)
-told first item c = read_if item (begins first c.rest) c
+use Rattle.expression_syntax.specs.declared.key.RawKey.{RawKey}
+use Rattle.expression_syntax.specs.declared.keyword.Keyword.TheVariants as word
+use Rattle.expression_syntax.specs.declared.source.Source.{Source}
+use Rattle.expression_syntax.specs.Parts.{is_and, is_comma}
+use Rattle.expression_syntax.specs.Reading.{Parser, ◌>>=◌, ◌>>◌, pure, take_name}
+use Rattle.expression_syntax.specs.ReadParts.{begins_source, call, column, equality, expect_word, is_name, key, list, optional, reference, source, take_text, told}
 
 -- [PRESORT keys]
 abbrev pub presort : Parser (Option (List RawKey))

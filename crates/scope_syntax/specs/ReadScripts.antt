@@ -1,9 +1,9 @@
 -- Reading of scripts, piece by piece.
 use Rattle.std.specs.Prelude.{◌≡◌, ◌++◌, List, [], ◌∷◌, Some, None}
-use Rattle.scope_syntax.specs.declared.refusal.Refusal.{Refusal}
-use Rattle.scope_syntax.specs.declared.refusal.Refusal.TheVariants.{Memory, Grammar}
+use Rattle.expression_syntax.specs.declared.refusal.Refusal.{Refusal}
+use Rattle.expression_syntax.specs.declared.refusal.Refusal.TheVariants.{Memory, Grammar}
 use Rattle.scope_syntax.specs.declared.script.Statement.{Statement}
-use Rattle.scope_syntax.specs.Lexemes.{Lexeme}
+use Rattle.expression_syntax.specs.Lexemes.{Lexeme}
 use Rattle.scope_syntax.specs.Statements.{SpellsEach, pieces}
 use Rattle.scope_syntax.specs.ReadStatements.{read_statement}
 

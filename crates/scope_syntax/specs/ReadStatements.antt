@@ -1,18 +1,19 @@
 -- Reading of EXTRACT and of whole statements.
-use Rattle.std.specs.Prelude.{◌≡◌, ℕ, Bool, true, false, List, [], ◌∷◌, Option, Some, None, Result, Ok, Err, if◌then◌else◌}
+use Rattle.std.specs.Prelude.{◌≡◌, ℕ, List, [], ◌∷◌, Option, Some, None, Result, Ok, Err, if◌then◌else◌}
 use Rattle.scope_syntax.specs.declared.command.Command.{Command}
 use Rattle.scope_syntax.specs.declared.command.Command.TheVariants.{Extract, Select}
-use Rattle.scope_syntax.specs.declared.keyword.Keyword.TheVariants as word
-use Rattle.scope_syntax.specs.declared.refusal.Refusal.{Refusal}
-use Rattle.scope_syntax.specs.declared.refusal.Refusal.TheVariants.{Memory, Grammar}
+use Rattle.expression_syntax.specs.declared.keyword.Keyword.TheVariants as word
+use Rattle.expression_syntax.specs.declared.refusal.Refusal.{Refusal}
+use Rattle.expression_syntax.specs.declared.refusal.Refusal.TheVariants.{Memory, Grammar}
 use Rattle.scope_syntax.specs.declared.script.Statement.{Statement}
-use Rattle.scope_syntax.specs.declared.symbol.Symbol.TheVariants as mark
-use Rattle.scope_syntax.specs.Lexemes.{Lexeme, keyword, name, is_symbol}
-use Rattle.scope_syntax.specs.Statements.{can_be_named, is_comma}
-use Rattle.scope_syntax.specs.Reading.{Cursor, Parser, ◌>>=◌, ◌>>◌, expect, pure, refuse, take_one}
-use Rattle.scope_syntax.specs.ReadParts.{call, column, expect_word, list}
+use Rattle.expression_syntax.specs.declared.symbol.Symbol.TheVariants as mark
+use Rattle.expression_syntax.specs.Lexemes.{Lexeme, keyword, name, is_symbol}
+use Rattle.expression_syntax.specs.Parts.{is_comma}
+use Rattle.scope_syntax.specs.Statements.{can_be_named}
+use Rattle.expression_syntax.specs.Reading.{Cursor, Parser, ◌>>=◌, ◌>>◌, expect, pure, refuse, start, take_one}
+use Rattle.expression_syntax.specs.ReadParts.{call, column, expect_word, list, take_text}
 use Rattle.scope_syntax.specs.ReadSelect.{select}
-use Rattle.scope_syntax.specs.ReadCommands.{combine, output, process, reduce, take_text}
+use Rattle.scope_syntax.specs.ReadCommands.{combine, output, process, reduce}
 
 unfoldable pub extract : Parser Command
 extract = do
@@ -74,7 +75,7 @@ whole_of (Some p) = if_nothing_left p.0 p.1.rest
 
 -- the statement that these lexemes are
 unfoldable pub read_statement : List Lexeme → Option Statement
-read_statement ts = whole_of (statement (record { rest = ts; aggs = [] }))
+read_statement ts = whole_of (statement (start ts))
 
 -- an answer is what reading gives, unless memory runs out
 abbrev pub Answers : {A : Type 0} → Option A → Result A Refusal → Type 0

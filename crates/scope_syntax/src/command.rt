@@ -1,14 +1,12 @@
 // What a statement does.
-use crate::call::Call;
-use crate::key::RawKey;
-use crate::select::{RefPair, Select};
-use crate::source::Source;
+use crate::select::Select;
+use expression_syntax::{Call, RawKey, RefPair, Source};
 use scope_expr::RawRef;
 use scope_value::{Cell, Column};
 use sqlite_items::Items;
 
 /// A command as it is written. Where an input is left out it is the result of the command just before.
-#[derive(Debug, Drop)]
+#[derive(Drop)]
 pub enum Command {
     /// Reads a stream.
     Extract {

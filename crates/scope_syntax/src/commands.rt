@@ -1,18 +1,12 @@
 // The commands besides SELECT, each behind its first word.
 ghost use Rattle.std.specs.Prelude.{◌≡◌};
-ghost use Rattle.scope_syntax.specs.Reading as reading;
-ghost use Rattle.scope_syntax.specs.Reading.{Reads};
+ghost use Rattle.expression_syntax.specs.Reading as reading;
+ghost use Rattle.expression_syntax.specs.Reading.{Reads};
 ghost use Rattle.scope_syntax.specs.ReadCommands as spec;
-ghost use Rattle.scope_syntax.specs.ReadParts as parts;
+ghost use Rattle.expression_syntax.specs.ReadParts as parts;
 
-use crate::call::Call;
 use crate::command::Command;
-use crate::key::RawKey;
-use crate::keyword::Keyword;
-use crate::parser::Parser;
-use crate::refusal::Refusal;
-use crate::source::Source;
-use crate::terminal::Terminal;
+use expression_syntax::{Call, Keyword, Parser, RawKey, Refusal, Source, beside};
 use scope_value::{Cell, Column};
 use sqlite_items::Items;
 
@@ -22,158 +16,119 @@ type Produced = (Call, Items<Column>);
 /// An input of COMBINE, and the keys by which each of its groups is sorted.
 type Input = (Source, Option<Items<RawKey>>);
 
-impl<'a> Parser<'a> {
-    /// A string.
-    #[tactic(auto, unfolding(crate::specs::ReadCommands::take_text))]
-    pub(crate) fn text(&mut self) -> Result<Cell, Refusal>
-        ensures { Reads (spec.take_text self.old) result self.new }
-    {
-        match self.take() {
-            Some(Terminal::Text(bytes)) => Ok(Cell::from_slice(self.alloc, bytes)?),
-            _ => Err(Refusal::Grammar),
-        }
+/// The keys behind PRESORT, where it is.
+#[tactic(auto, unfolding(expression_syntax::specs::ReadParts::optional))]
+fn read_presort(parser: &mut Parser) -> Result<Option<Items<RawKey>>, Refusal>
+    ensures { Reads (spec.presort parser.old) result parser.new }
+{
+    if parser.eat_word(Keyword::Presort) {
+        let keys = parser.list()?;
+        Ok(Some(keys))
+    } else {
+        Ok(None)
     }
+}
 
-    /// A source, where one is next.
-    #[tactic(auto, unfolding(crate::specs::ReadCommands::told))]
-    fn source_if_any(&mut self) -> Result<Option<Source>, Refusal>
-        ensures { Reads (spec.told spec.begins_source parts.source self.old) result self.new }
-    {
-        match self.rest {
-            [Terminal::Name(_) | Terminal::Text(_), ..] => {
-                let source = self.source()?;
-                Ok(Some(source))
-            }
-            _ => Ok(None),
-        }
+/// The name behind USING, where it is.
+#[tactic(auto, unfolding(expression_syntax::specs::ReadParts::optional))]
+fn read_outputter(parser: &mut Parser) -> Result<Option<Cell>, Refusal>
+    ensures { Reads (parts.optional Keyword.Using reading.take_name parser.old) result parser.new }
+{
+    if parser.eat_word(Keyword::Using) {
+        let name = parser.name()?;
+        Ok(Some(name))
+    } else {
+        Ok(None)
     }
+}
 
-    /// A name, where one is next.
-    #[tactic(auto, unfolding(crate::specs::ReadCommands::told))]
-    fn name_if_any(&mut self) -> Result<Option<Cell>, Refusal>
-        ensures { Reads (spec.told spec.is_name reading.take_name self.old) result self.new }
-    {
-        match self.rest {
-            [Terminal::Name(_), ..] => {
-                let name = self.name()?;
-                Ok(Some(name))
-            }
-            _ => Ok(None),
-        }
-    }
+/// USING op PRODUCE cols.
+#[tactic(auto, unfolding(crate::specs::ReadCommands::produced))]
+fn read_produced(parser: &mut Parser) -> Result<Produced, Refusal>
+    ensures { Reads (spec.produced parser.old) result parser.new }
+{
+    parser.expect_word(Keyword::Using)?;
+    let call = parser.op()?;
+    parser.expect_word(Keyword::Produce)?;
+    let cols = parser.list()?;
+    Ok((call, cols))
+}
 
-    /// The keys behind PRESORT, where it is.
-    #[tactic(auto, unfolding(crate::specs::ReadParts::optional))]
-    fn presort(&mut self) -> Result<Option<Items<RawKey>>, Refusal>
-        ensures { Reads (spec.presort self.old) result self.new }
-    {
-        if self.eat_word(Keyword::Presort) {
-            let keys = self.list()?;
-            Ok(Some(keys))
-        } else {
-            Ok(None)
-        }
-    }
+/// process: a source or none, an operator, and columns.
+#[tactic(auto, unfolding(crate::specs::ReadCommands::process))]
+pub(crate) fn read_process(parser: &mut Parser) -> Result<Command, Refusal>
+    ensures { Reads (spec.process parser.old) result parser.new }
+{
+    let source = parser.source_if_any()?;
+    let (call, cols) = read_produced(parser)?;
+    Ok(Command::Process { source, call, cols })
+}
 
-    /// The name behind USING, where it is.
-    #[tactic(auto, unfolding(crate::specs::ReadParts::optional))]
-    fn outputter(&mut self) -> Result<Option<Cell>, Refusal>
-        ensures { Reads (parts.optional Keyword.Using reading.take_name self.old) result self.new }
-    {
-        if self.eat_word(Keyword::Using) {
-            let name = self.name()?;
-            Ok(Some(name))
-        } else {
-            Ok(None)
-        }
-    }
+/// reduce: a source or none, its groups' order, its groups, an operator, and columns.
+#[tactic(auto, unfolding(crate::specs::ReadCommands::reduce))]
+pub(crate) fn read_reduce(parser: &mut Parser) -> Result<Command, Refusal>
+    ensures { Reads (spec.reduce parser.old) result parser.new }
+{
+    let source = parser.source_if_any()?;
+    let input = beside(source, read_presort(parser))?;
+    let (input, ()) = beside(input, parser.expect_word(Keyword::On))?;
+    let grouped = beside(input, parser.list())?;
+    let (grouped, (call, cols)) = beside(grouped, read_produced(parser))?;
+    let ((source, presort), on) = grouped;
+    Ok(Command::Reduce {
+        source,
+        presort,
+        on,
+        call,
+        cols,
+    })
+}
 
-    /// USING op PRODUCE cols.
-    #[tactic(auto, unfolding(crate::specs::ReadCommands::produced))]
-    fn produced(&mut self) -> Result<Produced, Refusal>
-        ensures { Reads (spec.produced self.old) result self.new }
-    {
-        self.expect_word(Keyword::Using)?;
-        let call = self.op()?;
-        self.expect_word(Keyword::Produce)?;
-        let cols = self.list()?;
-        Ok((call, cols))
-    }
+/// A source, and its groups' order.
+#[tactic(auto, unfolding(crate::specs::ReadCommands::input))]
+fn read_input(parser: &mut Parser) -> Result<Input, Refusal>
+    ensures { Reads (spec.input parser.old) result parser.new }
+{
+    let source = parser.source()?;
+    let presort = read_presort(parser)?;
+    Ok((source, presort))
+}
 
-    /// process: a source or none, an operator, and columns.
-    #[tactic(auto, unfolding(crate::specs::ReadCommands::process))]
-    pub(crate) fn process(&mut self) -> Result<Command, Refusal>
-        ensures { Reads (spec.process self.old) result self.new }
-    {
-        let source = self.source_if_any()?;
-        let (call, cols) = self.produced()?;
-        Ok(Command::Process { source, call, cols })
-    }
+/// combine: two inputs, the columns that tie them, an operator, and columns.
+#[tactic(auto, unfolding(crate::specs::ReadCommands::combine))]
+pub(crate) fn read_combine(parser: &mut Parser) -> Result<Command, Refusal>
+    ensures { Reads (spec.combine parser.old) result parser.new }
+{
+    let left = read_input(parser)?;
+    let (left, ()) = beside(left, parser.expect_word(Keyword::With))?;
+    let inputs = beside(left, read_input(parser))?;
+    let (inputs, ()) = beside(inputs, parser.expect_word(Keyword::On))?;
+    let joined = beside(inputs, parser.list())?;
+    let (joined, (call, cols)) = beside(joined, read_produced(parser))?;
+    let (((left, left_presort), (right, right_presort)), on) = joined;
+    Ok(Command::Combine {
+        left,
+        left_presort,
+        right,
+        right_presort,
+        on,
+        call,
+        cols,
+    })
+}
 
-    /// reduce: a source or none, its groups' order, its groups, an operator, and columns.
-    #[tactic(auto, unfolding(crate::specs::ReadCommands::reduce))]
-    pub(crate) fn reduce(&mut self) -> Result<Command, Refusal>
-        ensures { Reads (spec.reduce self.old) result self.new }
-    {
-        let source = self.source_if_any()?;
-        let presort = self.presort()?;
-        self.expect_word(Keyword::On)?;
-        let on = self.list()?;
-        let (call, cols) = self.produced()?;
-        Ok(Command::Reduce {
-            source,
-            presort,
-            on,
-            call,
-            cols,
-        })
-    }
-
-    /// A source, and its groups' order.
-    #[tactic(auto, unfolding(crate::specs::ReadCommands::input))]
-    fn input(&mut self) -> Result<Input, Refusal>
-        ensures { Reads (spec.input self.old) result self.new }
-    {
-        let source = self.source()?;
-        let presort = self.presort()?;
-        Ok((source, presort))
-    }
-
-    /// combine: two inputs, the columns that tie them, an operator, and columns.
-    #[tactic(auto, unfolding(crate::specs::ReadCommands::combine))]
-    pub(crate) fn combine(&mut self) -> Result<Command, Refusal>
-        ensures { Reads (spec.combine self.old) result self.new }
-    {
-        let (left, left_presort) = self.input()?;
-        self.expect_word(Keyword::With)?;
-        let (right, right_presort) = self.input()?;
-        self.expect_word(Keyword::On)?;
-        let on = self.list()?;
-        let (call, cols) = self.produced()?;
-        Ok(Command::Combine {
-            left,
-            left_presort,
-            right,
-            right_presort,
-            on,
-            call,
-            cols,
-        })
-    }
-
-    /// output: a name or none, a stream, and an outputter or none.
-    #[tactic(auto, unfolding(crate::specs::ReadCommands::output))]
-    pub(crate) fn output(&mut self) -> Result<Command, Refusal>
-        ensures { Reads (spec.output self.old) result self.new }
-    {
-        let source = self.name_if_any()?;
-        self.expect_word(Keyword::To)?;
-        let stream = self.text()?;
-        let outputter = self.outputter()?;
-        Ok(Command::Output {
-            source,
-            stream,
-            outputter,
-        })
-    }
+/// output: a name or none, a stream, and an outputter or none.
+#[tactic(auto, unfolding(crate::specs::ReadCommands::output))]
+pub(crate) fn read_output(parser: &mut Parser) -> Result<Command, Refusal>
+    ensures { Reads (spec.output parser.old) result parser.new }
+{
+    let source = parser.name_if_any()?;
+    parser.expect_word(Keyword::To)?;
+    let stream = parser.text()?;
+    let outputter = read_outputter(parser)?;
+    Ok(Command::Output {
+        source,
+        stream,
+        outputter,
+    })
 }

@@ -2,7 +2,7 @@
 ghost use Rattle.std.specs.Prelude.{◌≡◌, ◌≤◌, ◌^◌, List, length, ℕ};
 ghost use Rattle.scope_syntax.specs.declared.script.Script.{Script};
 ghost use Rattle.scope_syntax.specs.declared.script.Statement.{Statement};
-ghost use Rattle.scope_syntax.specs.Lexemes.{Lexeme};
+ghost use Rattle.expression_syntax.specs.Lexemes.{Lexeme};
 ghost use Rattle.scope_syntax.specs.Statements.{IsFirstFault, SpellsScript, SpellsStatement};
 
 /// The grammar is unambiguous: lexemes spell at most one statement and at most one script, have at most one first

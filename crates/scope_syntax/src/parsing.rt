@@ -2,12 +2,12 @@
 ghost use Rattle.std.specs.Prelude.{IfOk, MatchResult};
 ghost use Rattle.scope_lexer.specs.Tokens.{IsLexed};
 ghost use Rattle.scope_syntax.specs.Statements.{IsFirstFault, SpellsScript};
-ghost use Rattle.scope_syntax.specs.Terminals.{lexemes};
+ghost use Rattle.expression_syntax.specs.Terminals.{lexemes};
 
 use crate::fault::SyntaxFault;
 use crate::pieces::script_of;
 use crate::script::Script;
-use crate::terminals::{strings, terminals};
+use expression_syntax::{strings, terminals_of};
 use scope_lexer::Token;
 use scope_lexer::laws::tokens_stand;
 use std::alloc::{AllocError, Global};
@@ -26,6 +26,6 @@ pub fn parse(
 {
     tokens_stand();
     let strings = strings(alloc, text, tokens)?;
-    let terminals = terminals(alloc, text, tokens, &strings)?;
+    let terminals = terminals_of(alloc, text, tokens, &strings)?;
     script_of(alloc, &terminals)
 }

@@ -1,17 +1,15 @@
 // A script's pieces: what stands between semicolons, each a statement.
 ghost use Rattle.std.specs.Prelude.{◌≡◌, ◌<◌, ◌^◌, [], ◌∷◌, IfErr, IfOk, MatchOption, MatchResult, OnOk, length, map};
 ghost use Rattle.std.specs.List.{slice_split};
-ghost use Rattle.scope_syntax.specs.Lexemes.{lexeme_of};
+ghost use Rattle.expression_syntax.specs.Lexemes.{lexeme_of};
 ghost use Rattle.scope_syntax.specs.ReadScripts as spec;
 ghost use Rattle.scope_syntax.specs.Statements as grammar;
 ghost use Rattle.scope_syntax.specs.Statements.{IsFirstFault, SpellsScript};
 
 use crate::fault::SyntaxFault;
-use crate::refusal::Refusal;
 use crate::script::{Script, Statement};
 use crate::statement::statement_of;
-use crate::symbol::Symbol;
-use crate::terminal::Terminal;
+use expression_syntax::{Refusal, Symbol, Terminal};
 use sqlite_items::Items;
 use std::alloc::{AllocError, Global};
 

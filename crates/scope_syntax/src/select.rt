@@ -1,16 +1,10 @@
 // The SELECT command.
-use crate::item::Items;
-use crate::key::RawKey;
-use crate::raw_agg::RawAgg;
-use crate::source::Source;
+use expression_syntax::{Items, RawAgg, RawKey, RefPair, Source};
 use scope_expr::{RawExpr, RawRef};
 use sqlite_items::Items as Sequence;
 
-/// Two columns that ON sets equal, in the order in which they are written.
-pub type RefPair = (RawRef, RawRef);
-
 /// A source of FROM, and the equalities that join it to those before it. The first source has none.
-#[derive(Debug, Drop)]
+#[derive(Drop)]
 pub struct Joined {
     pub source: Source,
     pub on: Sequence<RefPair>,
@@ -18,7 +12,7 @@ pub struct Joined {
 
 /// A SELECT, clause by clause. `aggs` are the aggregates of its items, from the left: `RawExpr::Agg(i)` is number i of
 /// them. `sources` is empty where FROM is left out.
-#[derive(Debug, Drop)]
+#[derive(Drop)]
 pub struct Select {
     pub distinct: bool,
     pub top: Option<u64>,

@@ -5,8 +5,8 @@ use Rattle.scope_syntax.proofs.parsing.parse.Goals as goal
 pub strings-requires : goal.strings-requires
 strings-requires c = c.tokens_stand.ensures.each c.args.text.now c.args.tokens.now c.requires
 
-pub terminals-requires-clause-stand : goal.terminals-requires-clause-stand
-terminals-requires-clause-stand c = c.tokens_stand.ensures.each c.args.text.now c.args.tokens.now c.requires
+pub terminals_of-requires-clause-stand : goal.terminals_of-requires-clause-stand
+terminals_of-requires-clause-stand c = c.tokens_stand.ensures.each c.args.text.now c.args.tokens.now c.requires
 
 pub script_of-requires : goal.script_of-requires
 script_of-requires c =

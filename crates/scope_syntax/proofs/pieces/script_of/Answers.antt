@@ -1,7 +1,7 @@
 -- The lemmas of Progress, at the loop.
-use Rattle.std.proofs.Common.{◌≡◌, ◌+◌, ◌<◌, ◌^◌, length, map, arith, ap, sym, ◌∙◌, subst}
+use Rattle.std.proofs.Common.{◌+◌, ◌<◌, ◌^◌, length, map, arith, sym, subst}
 use Rattle.std.proofs.lemmas.List.{length-map}
-use Rattle.scope_syntax.specs.Lexemes.{lexeme_of}
+use Rattle.expression_syntax.specs.Lexemes.{lexeme_of}
 use Rattle.scope_syntax.specs.Statements.{IsFirstFault}
 use Rattle.scope_syntax.proofs.Progress.{a_fault, left, number_fits, one_more}
 use Rattle.scope_syntax.proofs.pieces.script_of.Goals as goal

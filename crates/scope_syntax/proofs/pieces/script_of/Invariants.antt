@@ -1,6 +1,6 @@
 -- All pieces but those that are left were read.
-use Rattle.std.proofs.Common.{◌+◌, ◌≤◌, ℕ, List, length, map, Option, Some, None}
-use Rattle.scope_syntax.specs.Lexemes.{lexeme_of}
+use Rattle.std.proofs.Common.{map}
+use Rattle.expression_syntax.specs.Lexemes.{lexeme_of}
 use Rattle.scope_syntax.specs.ReadScripts.{ReadSoFar}
 use Rattle.scope_syntax.proofs.Progress.{left, left_long}
 use Rattle.scope_syntax.proofs.pieces.script_of.Given as goal

@@ -1,0 +1,17 @@
+pub mod Depth
+pub mod Parts
+pub mod Further
+pub mod Follow
+pub mod Small
+pub mod Steps
+pub mod Sound
+pub mod SoundLevels
+pub mod Forward
+pub mod Complete
+pub mod ExpressionLaws
+pub mod OneTerminal
+pub mod Exact
+pub mod Closed
+pub mod PartLaws
+pub mod First
+pub mod ItemLaws

@@ -1,0 +1,9 @@
+pub mod Lexemes
+pub mod Expressions
+pub mod Parts
+pub mod Reading
+pub mod ReadExpressions
+pub mod ReadParts
+pub mod ReadItems
+pub mod Terminals
+pub mod Tables

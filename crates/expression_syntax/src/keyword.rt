@@ -1,0 +1,37 @@
+// The reserved words.
+
+/// A keyword. It is written in any ASCII case.
+#[derive(Clone, Copy, PartialEq, Eq)]
+pub enum Keyword {
+    Extract,
+    Select,
+    Process,
+    Reduce,
+    Combine,
+    Output,
+    From,
+    Using,
+    To,
+    Where,
+    Group,
+    By,
+    Having,
+    Order,
+    Asc,
+    Desc,
+    Distinct,
+    Top,
+    Join,
+    Inner,
+    On,
+    As,
+    Presort,
+    Produce,
+    With,
+    And,
+    Or,
+    Not,
+    True,
+    False,
+    Null,
+}

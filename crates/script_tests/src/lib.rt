@@ -1,0 +1,5 @@
+//! Tests that stand on several crates of reading, operators and the top call.
+#![tactic(auto)]
+
+#[cfg(test)]
+mod grammar;
