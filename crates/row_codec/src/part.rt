@@ -1,14 +1,14 @@
 // The rows of a part.
-ghost use Rattle.std.specs.Prelude.{◌≡◌, true, IfOk, IfSome, OnOk};
+ghost use Rattle.std.specs.Prelude.{◌≡◌, [], ◌∷◌, true, false, IfOk, IfSome, OnOk};
 ghost use Rattle.std.specs.List.{All};
 ghost use Rattle.csv.specs.Records.{fields_of};
 ghost use Rattle.scope_value.specs.Fits.{RowFits};
-ghost use Rattle.row_codec.specs.Records.{records_of};
+ghost use Rattle.row_codec.specs.Records.{IsBetween, left_of, records_of};
 ghost use Rattle.row_codec.specs.Rows.{Answers, rows_from};
 
 use crate::fault::RowFault;
 use crate::records::{open, read_line};
-use csv::ByteRecord;
+use csv::{ByteRecord, Reader};
 use scope_value::{Cell, Row, Schema};
 use std::alloc::{AllocError, Global};
 use user_ops::Extractor;
@@ -29,21 +29,67 @@ pub fn read_part(
     ensures fits { (told_extractor op.now).takes output.now args.now ≡ true
         → IfOk result (λ r. IfOk r (λ v. All (RowFits output.now) v.items)) }
 {
-    let mut reader = open(alloc, bytes, op.delimiter(args));
-    let mut line = ByteRecord::new(alloc);
-    let mut fields = Vec::new(alloc);
+    let mut part = Part {
+        reader: open(alloc, bytes, op.delimiter(args)),
+        line: ByteRecord::new(alloc),
+        fields: Vec::new(alloc),
+    };
     let mut rows = Vec::new(alloc);
+    let end = push_rows(alloc, &mut part, op, args, output, &mut rows);
+    drop(part);
+    match end? {
+        Ok(()) => Ok(Ok(rows)),
+        Err(fault) => Ok(Err(fault)),
+    }
+}
+
+// A part that is read record by record, and the fields of the latest.
+#[derive(Drop)]
+struct Part<'a> {
+    reader: Reader<&'a [u8]>,
+    line: ByteRecord,
+    fields: Vec<Cell>,
+}
+
+// Reads the rows that are left in a part, or up to the first record that is refused.
+fn push_rows(
+    alloc: Global,
+    part: &mut Part<'_>,
+    op: &dyn Extractor,
+    args: &[Cell],
+    output: &Schema,
+    rows: &mut Vec<Row>,
+) -> Result<Result<(), RowFault>, AllocError>
+    requires between { IsBetween part.old.reader }
+    requires first { rows.old.items ≡ [] }
+    ensures exact { IfOk result (λ r. Answers (λ _. rows.new.items) (λ f. f.at) r
+        (rows_from ((told_extractor op.now).extracts args.now output.now) 1 (left_of part.old.reader))) }
+    ensures fits { (told_extractor op.now).takes output.now args.now ≡ true → All (RowFits output.now) rows.new.items }
+{
     for before in 0..u64::MAX {
-        if !read_line(&mut reader, &mut line)? {
-            return Ok(Ok(rows));
+        if !next_record(alloc, part)? {
+            return Ok(Ok(()));
         }
-        refill(alloc, &line, &mut fields)?;
-        match row(alloc, op, args, output, fields.as_slice())? {
+        match row(alloc, op, args, output, part.fields.as_slice())? {
             Some(row) => rows.push(row)?,
             None => return Ok(Err(RowFault { at: before + 1 })),
         }
     }
     Err(AllocError)
+}
+
+// Reads the fields of the next record, if there is one.
+fn next_record(alloc: Global, part: &mut Part<'_>) -> Result<bool, AllocError>
+    requires { IsBetween part.old.reader }
+    ensures between { IfOk result (λ found. found ≡ true → IsBetween part.new.reader) }
+    ensures more { IfOk result (λ found. found ≡ true → left_of part.old.reader ≡ part.new.fields.items ∷ left_of part.new.reader) }
+    ensures done { IfOk result (λ found. found ≡ false → left_of part.old.reader ≡ []) }
+{
+    if !read_line(&mut part.reader, &mut part.line)? {
+        return Ok(false);
+    }
+    refill(alloc, &part.line, &mut part.fields)?;
+    Ok(true)
 }
 
 // Puts the fields of a record in the place of what was there, each copied once.
