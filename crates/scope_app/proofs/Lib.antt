@@ -1,4 +1,4 @@
 mod MarkingFits
+pub mod EndLemmas
 pub mod PipelineLemmas
 pub mod PlanLemmas
-pub mod RunLemmas

@@ -13,7 +13,7 @@ use Rattle.scope_expr.specs.declared.scope.Scope.{Scope}
 use Rattle.scope_expr.specs.declared.scope.TypeFault.{TypeFault}
 use Rattle.scope_expr.specs.Names.{typed}
 use Rattle.expression_syntax.specs.declared.item.Item.{Item}
-use Rattle.scope_app.specs.Pipeline.{are_new, entries_from, typed_items, with_expr}
+use Rattle.scope_app.specs.Pipeline.{◌>>=◌, are_new, entries_from, typed_items, with_expr}
 
 pub new_step : {X : Type 0} (name : X → List ℕ) (xs : List X) (i : ℕ) (x : X) → i < length xs → x ≡ get_or xs i x → list_any (λ y. bytes_eq (name y) (name x)) (take i xs) ≡ false
     → are_new name (take i xs) (drop i xs) ≡ are_new name (take (i + 1) xs) (drop (i + 1) xs)
@@ -33,6 +33,10 @@ pub entries_step : (alias : List ℕ) (columns : List Column) (i : ℕ) (c : Col
 entries_step alias columns i c front lt is =
     let first : drop i columns ≡ c ∷ drop (suc i) columns = drop-cons columns i c lt ∙ ap (λ (d : Column). d ∷ drop (suc i) columns) (sym is) in
     rw (first, add-one) (append_assoc front (record { alias = Some alias; name = c.name; id = i; kind = c.kind } ∷ []) (entries_from alias (suc i) (drop (suc i) columns)))
+
+pub none_after : {A B : Type 0} (o : Option A) (f : A → Option B) → ((a : A) → f a ≡ None) → (o >>= f) ≡ None
+none_after None f none = refl
+none_after (Some a) f none = none a
 
 -- expressions behind others, where they are there
 abbrev pub behind : List Expr → Option (List Expr) → Option (List Expr)

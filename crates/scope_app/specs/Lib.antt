@@ -6,3 +6,4 @@ pub mod Report
 pub mod Results
 pub mod Run
 pub mod ScriptText
+pub mod Stages

@@ -26,8 +26,8 @@ use Rattle.expression_syntax.specs.declared.source.Origin.{Origin}
 use Rattle.expression_syntax.specs.declared.source.Origin.TheVariants.{Named}
 use Rattle.scope_app.specs.declared.pipeline.Pipeline.{Pipeline}
 use Rattle.scope_app.specs.declared.pipeline.Selection.{Selection}
-use Rattle.scope_app.specs.declared.pipeline.Extraction.{Extraction}
-use Rattle.scope_app.specs.declared.pipeline.Outlet.{Outlet}
+use Rattle.scope_app.specs.declared.pipeline.Extraction as code
+use Rattle.scope_app.specs.declared.pipeline.Outlet as code_outlet
 
 infixl 10 ◌>>=◌
 abbrev pub ◌>>=◌ : {A B : Type 0} → Option A → (A → Option B) → Option B
@@ -48,6 +48,24 @@ abbrev pub are_distinct : {X : Type 0} → (X → List ℕ) → List X → Bool
 are_distinct name = are_new name []
 
 -- ---- statements
+
+-- an EXTRACT under the name of its result
+pub record Extraction : Type 0 where
+  pub name : List ℕ
+  pub columns : List Column
+  pub stream : List ℕ
+  pub call : Call
+
+-- an OUTPUT of a named result
+pub record Outlet : Type 0 where
+  pub name : List ℕ
+  pub stream : List ℕ
+
+abbrev pub extraction_told : code.Extraction → Extraction
+extraction_told e = record { name = e.name.now; columns = e.columns.now; stream = e.stream.now; call = e.call.now }
+
+abbrev pub outlet_told : code_outlet.Outlet → Outlet
+outlet_told o = record { name = o.name.now; stream = o.stream.now }
 
 -- a named EXTRACT of columns whose names differ
 abbrev pub extraction : Option (List ℕ) → Command → Option Extraction
@@ -125,27 +143,34 @@ abbrev pub width : List Column → Items → ℕ
 width columns All = length columns
 width columns (Listed xs) = length xs
 
+-- what a SELECT of WHERE and items does with the rows of these names
+abbrev pub selection_among : Scope → select.Select → Option Selection
+selection_among names s = predicate names s.filter >>= λ p. (items_of names s.items >>= λ es. Some (record { filter = p; items = es }))
+
 -- what a plain SELECT over these columns, under this name, does with the rows
 unfoldable pub selection : List ℕ → List Column → select.Select → Option Selection
 selection name columns s =
     if is_plain s && (reads_from name s.sources && nat_le (length columns + width columns s.items) max_columns)
-    then (predicate (scope_of name columns) s.filter >>= λ p. (items_of (scope_of name columns) s.items >>= λ es. Some (record { filter = p; items = es })))
+    then selection_among (scope_of name columns) s
     else None
 
 -- ---- scripts
+
+abbrev pub pipeline_from : Extraction → Option Selection → List ℕ → Pipeline
+pipeline_from e selection output = record { columns = e.columns; stream = e.stream; call = e.call; selection = selection; output = output }
 
 -- an EXTRACT, and an OUTPUT of its name
 unfoldable pub straight : Statement → Statement → Option Pipeline
 straight a b =
     extraction a.name a.command >>= λ e. (outlet b.name b.command >>= λ o.
-    (if bytes_eq e.name o.name then Some (record { columns = e.columns; stream = e.stream; call = e.call; selection = None; output = o.stream }) else None))
+    (if bytes_eq e.name o.name then Some (pipeline_from e None o.stream) else None))
 
 -- an EXTRACT, a SELECT of it under another name, and an OUTPUT of that
 unfoldable pub selected : Statement → Statement → Statement → Option Pipeline
 selected a m b =
     extraction a.name a.command >>= λ e. (selecting m.name m.command >>= λ s. (outlet b.name b.command >>= λ o.
     (if bytes_eq s.0 o.name && not (bytes_eq e.name s.0)
-    then (selection e.name e.columns s.1 >>= λ f. Some (record { columns = e.columns; stream = e.stream; call = e.call; selection = Some f; output = o.stream }))
+    then (selection e.name e.columns s.1 >>= λ f. Some (pipeline_from e (Some f) o.stream))
     else None)))
 
 abbrev pub shaped : List Statement → Option Pipeline

@@ -32,19 +32,19 @@ pub struct Pipeline {
 }
 
 // An EXTRACT under the name of its result.
-#[derive(Drop)]
-struct Extraction {
-    name: Cell,
-    columns: Schema,
-    stream: Cell,
-    call: Call,
+#[derive(Clone, Copy)]
+struct Extraction<'a> {
+    name: &'a Cell,
+    columns: &'a [Column],
+    stream: &'a Cell,
+    call: &'a Call,
 }
 
 // An OUTPUT of a named result.
-#[derive(Drop)]
-struct Outlet {
-    name: Cell,
-    stream: Cell,
+#[derive(Clone, Copy)]
+struct Outlet<'a> {
+    name: &'a Cell,
+    stream: &'a Cell,
 }
 
 /// What the script does: None exactly where it is not one that runs yet. An error is want of memory alone.
@@ -66,23 +66,16 @@ fn straight(
 ) -> Result<Option<Pipeline>, AllocError>
     ensures { IfOk result (λ found. found ≡ spec.straight first.now last.now) }
 {
-    let Some(extraction) = extraction_of(alloc, first)? else {
+    let Some(extraction) = extraction_of(first) else {
         return Ok(None);
     };
-    let Some(outlet) = outlet_of(last)? else {
+    let Some(outlet) = outlet_of(last) else {
         return Ok(None);
     };
-    if extraction.name.as_slice() == outlet.name.as_slice() {
-        Ok(Some(Pipeline {
-            columns: extraction.columns,
-            stream: extraction.stream,
-            call: extraction.call,
-            selection: None,
-            output: outlet.stream,
-        }))
-    } else {
-        Ok(None)
+    if extraction.name.as_slice() != outlet.name.as_slice() {
+        return Ok(None);
     }
+    Ok(Some(pipeline_from(alloc, extraction, None, outlet.stream)?))
 }
 
 #[tactic(auto, unfolding(crate::specs::Pipeline::selected))]
@@ -94,53 +87,97 @@ fn selected(
 ) -> Result<Option<Pipeline>, AllocError>
     ensures { IfOk result (λ found. found ≡ spec.selected first.now middle.now last.now) }
 {
-    let Some(extraction) = extraction_of(alloc, first)? else {
+    let Some(extraction) = extraction_of(first) else {
         return Ok(None);
     };
     let Some((name, select)) = selecting(middle) else {
         return Ok(None);
     };
-    let Some(outlet) = outlet_of(last)? else {
+    let Some(outlet) = outlet_of(last) else {
         return Ok(None);
     };
     if name.as_slice() != outlet.name.as_slice() || extraction.name.as_slice() == name.as_slice() {
         return Ok(None);
     }
-    let Some(selection) = selection(
-        alloc,
-        &extraction.name,
-        extraction.columns.as_slice(),
-        select,
-    )?
-    else {
-        return Ok(None);
-    };
-    Ok(Some(Pipeline {
-        columns: extraction.columns,
-        stream: extraction.stream,
-        call: extraction.call,
-        selection: Some(selection),
-        output: outlet.stream,
-    }))
+    match selection(alloc, extraction.name, extraction.columns, select)? {
+        None => Ok(None),
+        Some(selection) => {
+            let selection = Some(selection);
+            Ok(Some(pipeline_from(alloc, extraction, selection, outlet.stream)?))
+        }
+    }
 }
 
-fn extraction_of(alloc: Global, statement: &Statement) -> Result<Option<Extraction>, AllocError>
-    ensures { IfOk result (λ found. found ≡ spec.extraction statement.now.name statement.now.command) }
+// The pipeline of an extraction whose rows are selected so and output to this stream.
+fn pipeline_from(
+    alloc: Global,
+    extraction: Extraction<'_>,
+    selection: Option<Selection>,
+    output: &Cell,
+) -> Result<Pipeline, AllocError>
+    ensures { IfOk result (λ p. p ≡ spec.pipeline_from (spec.extraction_told extraction.entry) selection output.now) }
+{
+    match ends_of(alloc, extraction, output) {
+        Ok(
+            Ends {
+                columns,
+                stream,
+                call,
+                output,
+            },
+        ) => Ok(Pipeline {
+            columns,
+            stream,
+            call,
+            selection,
+            output,
+        }),
+        Err(AllocError) => {
+            drop(selection);
+            Err(AllocError)
+        }
+    }
+}
+
+// What a pipeline has but for its selection.
+struct Ends {
+    columns: Schema,
+    stream: Cell,
+    call: Call,
+    output: Cell,
+}
+
+fn ends_of(alloc: Global, extraction: Extraction<'_>, output: &Cell) -> Result<Ends, AllocError>
+    ensures columns { IfOk result (λ ends. ends.columns ≡ extraction.entry.columns.now) }
+    ensures stream { IfOk result (λ ends. ends.stream ≡ extraction.entry.stream.now) }
+    ensures call { IfOk result (λ ends. ends.call ≡ extraction.entry.call.now) }
+    ensures output { IfOk result (λ ends. ends.output ≡ output.now) }
+{
+    Ok(Ends {
+        stream: extraction.stream.copy()?,
+        output: output.copy()?,
+        columns: copied_columns(alloc, extraction.columns)?,
+        call: copied_call(alloc, extraction.call)?,
+    })
+}
+
+fn extraction_of(statement: &Statement) -> Option<Extraction<'_>>
+    ensures { option_map spec.extraction_told result ≡ spec.extraction statement.entry.now.name statement.entry.now.command }
 {
     let Some(name) = &statement.name else {
-        return Ok(None);
+        return None;
     };
     match &statement.command {
         Command::Extract { cols, stream, call }
             if cols.len() <= MAX_COLUMNS && have_distinct_names(cols.as_slice()) => {
-            Ok(Some(Extraction {
-                name: name.copy()?,
-                columns: copied_columns(alloc, cols.as_slice())?,
-                stream: stream.copy()?,
-                call: copied_call(alloc, call)?,
-            }))
+            Some(Extraction {
+                name,
+                columns: cols.as_slice(),
+                stream,
+                call,
+            })
         }
-        _ => Ok(None),
+        _ => None,
     }
 }
 
@@ -156,22 +193,19 @@ fn selecting(statement: &Statement) -> Option<(&Cell, &Select)>
     }
 }
 
-fn outlet_of(statement: &Statement) -> Result<Option<Outlet>, AllocError>
-    ensures { IfOk result (λ found. found ≡ spec.outlet statement.now.name statement.now.command) }
+fn outlet_of(statement: &Statement) -> Option<Outlet<'_>>
+    ensures { option_map spec.outlet_told result ≡ spec.outlet statement.entry.now.name statement.entry.now.command }
 {
-    if statement.name.is_some() {
-        return Ok(None);
-    }
-    match &statement.command {
-        Command::Output {
-            source: Some(name),
-            stream,
-            outputter: None,
-        } => Ok(Some(Outlet {
-            name: name.copy()?,
-            stream: stream.copy()?,
-        })),
-        _ => Ok(None),
+    match (&statement.name, &statement.command) {
+        (
+            None,
+            Command::Output {
+                source: Some(name),
+                stream,
+                outputter: None,
+            },
+        ) => Some(Outlet { name, stream }),
+        _ => None,
     }
 }
 

@@ -1,8 +1,9 @@
 // What is to be done for a script's text.
-ghost use Rattle.std.specs.Prelude.{◌≡◌, ◌≢◌, ◌<◌, true, false, length, IfOk, IfSome, IfNone, MatchResult, Some, None, slice_get};
+ghost use Rattle.std.specs.Prelude.{◌≡◌, ◌<◌, ℕ, List, length, IfOk, IfSome, IfNone, Some, None, slice_get};
 ghost use Rattle.user_ops.specs.Told.{ToldExtractor};
 ghost use Rattle.scope_app.specs.Plans.{IsPlanOf, IsReadingOf, extractor_of};
-ghost use Rattle.scope_app.specs.ScriptText.{IsScriptText, IsFaultAt};
+ghost use Rattle.scope_app.specs.Pipeline.{pipeline_of as spec_pipeline_of};
+ghost use Rattle.scope_app.specs.ScriptText.{IsScriptText};
 
 use crate::pipeline::{Pipeline, pipeline_of};
 use crate::status::ScriptPlace;
@@ -33,17 +34,34 @@ enum Reading {
 pub fn plan_of(alloc: Global, bytes: &[u8], ops: &OpSet) -> Result<Plan, AllocError>
     ensures { IfOk result (λ plan. IsPlanOf (⟦<OpSet as Tells>⟧.tells ops.now) bytes.now plan) }
 {
-    let script = match read_script(alloc, bytes)? {
-        Reading::NotText => return Ok(Plan::NotText),
-        Reading::Fault(place) => return Ok(Plan::Fault(place)),
-        Reading::Script(script) => script,
-    };
-    let Some(pipeline) = pipeline_of(alloc, &script)? else {
-        return Ok(Plan::NoForm);
-    };
-    match extractor_place(&pipeline, ops) {
-        Some(place) => Ok(Plan::Runs(pipeline, place)),
+    match read_script(alloc, bytes)? {
+        Reading::NotText => Ok(Plan::NotText),
+        Reading::Fault(place) => Ok(Plan::Fault(place)),
+        Reading::Script(script) => plan_of_script(alloc, &script, ops),
+    }
+}
+
+fn plan_of_script(alloc: Global, script: &Script, ops: &OpSet) -> Result<Plan, AllocError>
+    ensures { IfOk result (λ plan. (bytes : List ℕ) → IsScriptText bytes script.now
+        → IsPlanOf (⟦<OpSet as Tells>⟧.tells ops.now) bytes plan) }
+{
+    match pipeline_of(alloc, script)? {
+        Some(pipeline) => Ok(placed(pipeline, ops)),
         None => Ok(Plan::NoForm),
+    }
+}
+
+// A script's pipeline runs where there is an extractor for it.
+fn placed(pipeline: Pipeline, ops: &OpSet) -> Plan
+    ensures { (bytes : List ℕ) (script : Script) → IsScriptText bytes script → spec_pipeline_of script ≡ Some pipeline
+        → IsPlanOf (⟦<OpSet as Tells>⟧.tells ops.now) bytes result }
+{
+    match extractor_place(&pipeline, ops) {
+        Some(place) => Plan::Runs(pipeline, place),
+        None => {
+            drop(pipeline);
+            Plan::NoForm
+        }
     }
 }
 

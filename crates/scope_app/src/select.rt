@@ -30,13 +30,24 @@ pub fn selection(
         return Ok(None);
     }
     let names = scope_of(alloc, name, columns)?;
-    let Some(filter) = predicate(alloc, &names, &select.filter)? else {
+    selection_among(alloc, &names, select)
+}
+
+// The items are made first: they are small at the exits of the predicate.
+fn selection_among(
+    alloc: Global,
+    names: &Scope,
+    select: &Select,
+) -> Result<Option<Selection>, AllocError>
+    ensures { IfOk result (λ found. found ≡ spec.selection_among names.now select.now) }
+{
+    let Some(items) = items_of(alloc, names, &select.items)? else {
         return Ok(None);
     };
-    let Some(items) = items_of(alloc, &names, &select.items)? else {
-        return Ok(None);
-    };
-    Ok(Some(Selection { filter, items }))
+    match predicate(alloc, names, &select.filter)? {
+        Some(filter) => Ok(Some(Selection { filter, items })),
+        None => Ok(None),
+    }
 }
 
 fn is_plain(select: &Select) -> bool

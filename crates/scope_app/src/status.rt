@@ -4,7 +4,7 @@ use scope_syntax::SyntaxFault;
 use scope_value::Cell;
 
 /// Where a script leaves the language.
-#[derive(Clone, Copy, Debug)]
+#[derive(Clone, Copy)]
 pub enum ScriptPlace {
     /// The first byte at which nothing begins.
     Lex(LexFault),
@@ -13,7 +13,7 @@ pub enum ScriptPlace {
 }
 
 /// How a call ended, with the name of the stream that it ended at.
-#[derive(Debug, Drop)]
+#[derive(Drop)]
 pub enum Status {
     /// All was done.
     Done,

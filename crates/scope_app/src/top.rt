@@ -1,16 +1,23 @@
 // The top call: what the words ask for, done over a store.
-ghost use Rattle.std.specs.Prelude.{◌≡◌, ℕ, List, map, IfSome, IfNone};
+ghost use Rattle.std.specs.Prelude.{◌≡◌, ℕ, List, map, IfSome, IfNone, IfOk, IfErr, Some};
+ghost use Rattle.std.specs.FinMap as finite;
 ghost use Rattle.std.specs.String.{string_bytes};
-ghost use Rattle.scope_app.specs.Run.{Asks, begins_with_dash, IsNoText, LeavesAt, Refuses, IsOfNoForm};
+ghost use Rattle.scope_outside.specs.State.{StoreState, OnFiles};
+ghost use Rattle.user_ops.specs.Told.{Operators};
+ghost use Rattle.scope_app.specs.Plans.{IsPlanOf};
+ghost use Rattle.scope_app.specs.Run.{Asks, AsksFor, begins_with_dash, IsNoText, LeavesAt, Reads, Refuses, Runs, Writes, IsOfNoForm};
 ghost use Rattle.scope_app.specs.Ends.{OnDone, OnNoMemory, OnNotText, OnNotBuilt, IfReadFault, IfNoStream, IfScriptFault, IfRowFault, IfWriteFault, OnGiven, HasWritten, FailedToRead, FoundNoStream, FailedToWrite, Stopped, IsCalledFor};
+ghost use Rattle.scope_app.specs.Stages.{Ended, HasExtractor};
 
 use crate::output::output_of;
+use crate::pipeline::Pipeline;
 use crate::plan::{Plan, plan_of};
 use crate::status::Status;
+use row_codec::RowFault;
 use scope_outside::{ReadAnswer, Store, WriteAnswer};
 use scope_value::Cell;
-use std::alloc::Global;
-use user_ops::{OpSet, Tells};
+use std::alloc::{AllocError, Global};
+use user_ops::{Extractor, OpSet, Tells};
 
 /// Does what the words ask for: `scope`, `run` and the name of a script, which is then run over the store with the operators.
 ///
@@ -31,52 +38,126 @@ pub fn scope_main<S: Store>(alloc: Global, words: &[String], store: &mut S, ops:
     ensures exact { OnGiven (map string_bytes words.now) (⟦<OpSet as Tells>⟧.tells ops.now) (S.told store.old) (λ g. IsCalledFor g result) }
     ensures no_words { ((name : List ℕ) → ¬ Asks (map string_bytes words.now) name) → result ≡ Status.NotBuilt }
 {
-    let Some(name) = asked_script(words) else {
-        return Status::NotBuilt;
-    };
-    let Ok(script_name) = Cell::from_slice(alloc, name) else {
-        return Status::NoMemory;
-    };
-    let mut text = Vec::new(alloc);
-    match store.read(name, &mut text) {
-        ReadAnswer::Done => {}
-        ReadAnswer::Missing => return Status::NoStream(script_name),
-        ReadAnswer::Failed => return Status::ReadFault(script_name),
-        ReadAnswer::NoMemory => return Status::NoMemory,
+    match asked_script(words) {
+        Some(name) => run_script(alloc, name, store, ops),
+        None => Status::NotBuilt,
     }
-    let Ok(plan) = plan_of(alloc, text.as_slice(), ops) else {
+}
+
+// Reads the script of this name and does what it says.
+fn run_script<S: Store>(alloc: Global, name: &[u8], store: &mut S, ops: &OpSet) -> Status
+    ensures { (words : List (List ℕ)) → Asks words name.now
+        → Ended words (⟦<OpSet as Tells>⟧.tells ops.now) (S.told store.old) (S.told store.new) result }
+{
+    match read_stream(alloc, name, store) {
+        Ok(text) => run_text(alloc, text.as_slice(), store, ops),
+        Err(status) => status,
+    }
+}
+
+// Does what a script of this text says, which the words ask for.
+fn run_text<S: Store>(alloc: Global, text: &[u8], store: &mut S, ops: &OpSet) -> Status
+    ensures { (words : List (List ℕ))
+        → OnGiven words (⟦<OpSet as Tells>⟧.tells ops.now) (S.told store.old) (λ g. AsksFor g text.now)
+        → Ended words (⟦<OpSet as Tells>⟧.tells ops.now) (S.told store.old) (S.told store.new) result }
+{
+    let Ok(plan) = plan_of(alloc, text, ops) else {
         return Status::NoMemory;
     };
-    let (pipeline, place) = match plan {
-        Plan::Runs(pipeline, place) => (pipeline, place),
-        Plan::NotText => return Status::NotText,
-        Plan::Fault(place) => return Status::ScriptFault(place),
-        Plan::NoForm => return Status::NotBuilt,
+    let status = carry_out(alloc, &plan, store, ops);
+    drop(plan);
+    status
+}
+
+// Does what is to be done for a text that the words ask for.
+fn carry_out<S: Store>(alloc: Global, plan: &Plan, store: &mut S, ops: &OpSet) -> Status
+    requires { HasExtractor (⟦<OpSet as Tells>⟧.tells ops.now) plan.now }
+    ensures { (words : List (List ℕ)) (text : List ℕ)
+        → OnGiven words (⟦<OpSet as Tells>⟧.tells ops.now) (S.told store.old) (λ g. AsksFor g text)
+        → IsPlanOf (⟦<OpSet as Tells>⟧.tells ops.now) text plan.now
+        → Ended words (⟦<OpSet as Tells>⟧.tells ops.now) (S.told store.old) (S.told store.new) result }
+{
+    match plan {
+        Plan::NotText => Status::NotText,
+        Plan::Fault(place) => Status::ScriptFault(*place),
+        Plan::NoForm => Status::NotBuilt,
+        Plan::Runs(pipeline, place) => {
+            run_pipeline(alloc, pipeline, ops.extractor_at(*place), store)
+        }
+    }
+}
+
+// Reads the input of a pipeline that the words ask for, and writes its output.
+fn run_pipeline<S: Store>(
+    alloc: Global,
+    pipeline: &Pipeline,
+    op: &Box<dyn Extractor>,
+    store: &mut S,
+) -> Status
+    ensures { (words : List (List ℕ)) (ops : Operators)
+        → OnGiven words ops (S.told store.old) (λ g. Runs g pipeline.now (told_extractor op.now))
+        → Ended words ops (S.told store.old) (S.told store.new) result }
+{
+    let bytes = match read_stream(alloc, pipeline.stream.as_slice(), store) {
+        Ok(bytes) => bytes,
+        Err(status) => return status,
+    };
+    match output_of(alloc, pipeline, op, bytes.as_slice()) {
+        Ok(Ok(text)) => write_stream(&pipeline.output, text.as_slice(), store),
+        Ok(Err(fault)) => row_fault(&pipeline.stream, fault),
+        Err(AllocError) => Status::NoMemory,
+    }
+}
+
+// The bytes of a stream that the words have read, or how the call ends without them.
+fn read_stream<S: Store>(alloc: Global, name: &[u8], store: &mut S) -> Result<Vec<u8>, Status>
+    ensures read { IfOk result (λ bytes. (S.told store.new ≡ S.told store.old)
+        × OnFiles (S.told store.old) (λ files. finite.get files name.now ≡ Some bytes.items)) }
+    ensures ends { IfErr result (λ status. (words : List (List ℕ)) (ops : Operators)
+        → OnGiven words ops (S.told store.old) (λ g. Reads g name.now)
+        → Ended words ops (S.told store.old) (S.told store.new) status) }
+{
+    let Ok(stream) = Cell::from_slice(alloc, name) else {
+        return Err(Status::NoMemory);
     };
     let mut bytes = Vec::new(alloc);
-    match store.read(pipeline.stream.as_slice(), &mut bytes) {
-        ReadAnswer::Done => {}
-        ReadAnswer::Missing => return Status::NoStream(pipeline.stream),
-        ReadAnswer::Failed => return Status::ReadFault(pipeline.stream),
-        ReadAnswer::NoMemory => return Status::NoMemory,
+    match store.read(name, &mut bytes) {
+        ReadAnswer::Done => Ok(bytes),
+        ReadAnswer::Missing => Err(Status::NoStream(stream)),
+        ReadAnswer::Failed => Err(Status::ReadFault(stream)),
+        ReadAnswer::NoMemory => Err(Status::NoMemory),
     }
-    let Ok(output) = output_of(alloc, &pipeline, ops.extractor_at(place), bytes.as_slice()) else {
+}
+
+// Writes the text that the words call for under this name.
+fn write_stream<S: Store>(name: &Cell, text: &[u8], store: &mut S) -> Status
+    ensures { (words : List (List ℕ)) (ops : Operators)
+        → OnGiven words ops (S.told store.old) (λ g. Writes g name.now text.now)
+        → Ended words ops (S.told store.old) (S.told store.new) result }
+{
+    let Ok(stream) = name.copy() else {
         return Status::NoMemory;
     };
-    let written = match output {
-        Ok(text) => text,
-        Err(fault) => {
-            return Status::RowFault {
-                name: pipeline.stream,
-                part: 0,
-                at: fault.at,
-            };
-        }
-    };
-    match store.write(pipeline.output.as_slice(), written.as_slice()) {
+    match store.write(name.as_slice(), text) {
         WriteAnswer::Done => Status::Done,
-        WriteAnswer::Failed => Status::WriteFault(pipeline.output),
+        WriteAnswer::Failed => Status::WriteFault(stream),
         WriteAnswer::NoMemory => Status::NoMemory,
+    }
+}
+
+// The status of a refused record of the stream.
+fn row_fault(name: &Cell, fault: RowFault) -> Status
+    ensures { (words : List (List ℕ)) (ops : Operators) (state : StoreState)
+        → OnGiven words ops state (λ g. Refuses g name.now fault.at)
+        → Ended words ops state state result }
+{
+    match name.copy() {
+        Ok(name) => Status::RowFault {
+            name,
+            part: 0,
+            at: fault.at,
+        },
+        Err(AllocError) => Status::NoMemory,
     }
 }
 
