@@ -2,7 +2,7 @@
 use scope_value::Cell;
 
 /// The name of a call, and whether it was a write.
-#[derive(Debug, Drop)]
+#[derive(Drop)]
 pub(crate) struct Latest {
     pub(crate) name: Cell,
     pub(crate) wrote: bool,

@@ -10,7 +10,7 @@ use user_ops::Combiner;
 
 /// A combiner that gives each left row followed by each right row, left order first. It takes no args, and the output's
 /// types are left's and then right's.
-#[derive(Debug, Clone, Copy)]
+#[derive(Clone, Copy)]
 pub struct InnerPairs;
 
 // Adds copies of the values. An error leaves some of them.

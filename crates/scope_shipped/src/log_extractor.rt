@@ -14,7 +14,7 @@ use user_ops::Extractor;
 /// An extractor for query logs: a record has exactly three fields, the user, the query and the clicks, with a tab between
 /// them. Its fixed columns are `user:string`, `query:string` and `clicks:int`. The output's columns are some of these, in
 /// any order, each read from the field of its name. It takes no args.
-#[derive(Debug, Clone, Copy)]
+#[derive(Clone, Copy)]
 pub struct LogExtractor;
 
 // A column of this name and type.

@@ -12,7 +12,7 @@ use user_ops::Combiner;
 
 /// A combiner that gives the left rows without as many copies of each as right has: of a row's equal copies in left the
 /// last ones are given, in left order. It takes no args, and left, right and the output have the same types.
-#[derive(Debug, Clone, Copy)]
+#[derive(Clone, Copy)]
 pub struct MultiSetDifference;
 
 // How often each row stands among these.

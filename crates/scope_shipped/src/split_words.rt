@@ -12,7 +12,7 @@ use user_ops::Processor;
 
 /// A processor that gives a row for each word of the first column, a string: for each maximal run of bytes other than
 /// space. For null it gives none. It takes no args.
-#[derive(Debug, Clone, Copy)]
+#[derive(Clone, Copy)]
 pub struct SplitWords;
 
 fn has_text_first(columns: &[Column]) -> bool

@@ -11,7 +11,7 @@ use user_ops::Extractor;
 
 /// An extractor for any output: a record has exactly one field for each column, in order. The delimiter is a comma, or
 /// the one ASCII byte of its one arg, which may not be a quote, CR or LF.
-#[derive(Debug, Clone, Copy)]
+#[derive(Clone, Copy)]
 pub struct TextExtractor;
 
 // Whether the byte may stand between fields.

@@ -11,7 +11,7 @@ use user_ops::Reducer;
 
 /// A reducer that gives the first rows of a group, as many as its one arg says: decimal digits, at most 1000000000. The
 /// output has the input's types.
-#[derive(Debug, Clone, Copy)]
+#[derive(Clone, Copy)]
 pub struct TopQueries;
 
 // How many rows the args ask for.
