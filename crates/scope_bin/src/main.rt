@@ -12,7 +12,7 @@ use std::alloc::{AllocError, Global};
 use std::env;
 use std::io::{self, Write};
 use std::process::ExitCode;
-use std::rt::Env;
+use std::rt::{Env, Files};
 use user_ops::OpSet;
 
 // The names of the shipped operators.
@@ -26,43 +26,69 @@ struct Names {
     pairs: Cell,
 }
 
+// The shipped operators, each in a box of its own.
+#[derive(Drop)]
+struct Boxes {
+    log: Box<LogExtractor>,
+    text: Box<TextExtractor>,
+    split: Box<SplitWords>,
+    top: Box<TopQueries>,
+    difference: Box<MultiSetDifference>,
+    pairs: Box<InnerPairs>,
+}
+
 fn main(rt: HostRuntime) -> io::Result<ExitCode> {
     let alloc = rt.alloc();
-    let status = match (
-        words_of(&rt, alloc),
-        shipped_names(alloc),
-        Box::new(alloc, LogExtractor),
-        Box::new(alloc, TextExtractor),
-        Box::new(alloc, SplitWords),
-        Box::new(alloc, TopQueries),
-        Box::new(alloc, MultiSetDifference),
-        Box::new(alloc, InnerPairs),
-    ) {
-        (Ok(words), Ok(names), Ok(log), Ok(text), Ok(split), Ok(top), Ok(difference), Ok(pairs)) =>
-            {
-                let mut ops = OpSet::new(alloc);
-                // No name stands twice, so that a refusal is want of memory.
-                if ops.add_extractor(names.log, log).is_ok()
-                    && ops.add_extractor(names.text, text).is_ok()
-                    && ops.add_processor(names.split, split).is_ok()
-                    && ops.add_reducer(names.top, top).is_ok()
-                    && ops.add_combiner(names.difference, difference).is_ok()
-                    && ops.add_combiner(names.pairs, pairs).is_ok()
-                {
-                    let mut store = FileStore::new(alloc, &rt);
-                    scope_main(alloc, words.as_slice(), &mut store, &ops)
-                } else {
-                    Status::NoMemory
-                }
-            }
-        _ => Status::NoMemory,
-    };
+    let status = run(&rt, alloc).unwrap_or(Status::NoMemory);
     let mut line = Vec::new(alloc);
     // Where memory for the line is refused, the number alone tells how the call ended.
     if status_line(&status, &mut line).is_ok() && !line.is_empty() && line.push(b'\n').is_ok() {
         rt.stderr().write_all(line.as_slice())?;
     }
     Ok(ExitCode::from(exit_code(&status)))
+}
+
+// Makes all that the top call is handed, and calls it.
+fn run<R: Env + Files + AllocGlobal>(rt: &R, alloc: Global) -> Result<Status, AllocError> {
+    let words = words_of(rt, alloc)?;
+    let names = shipped_names(alloc)?;
+    let boxes = shipped_boxes(alloc)?;
+    Ok(run_over_files(rt, alloc, words.as_slice(), names, boxes))
+}
+
+fn run_over_files<R: Files>(
+    rt: &R,
+    alloc: Global,
+    words: &[String],
+    names: Names,
+    boxes: Boxes,
+) -> Status {
+    let mut ops = OpSet::new(alloc);
+    let added = [
+        ops.add_extractor(names.log, boxes.log).is_ok(),
+        ops.add_extractor(names.text, boxes.text).is_ok(),
+        ops.add_processor(names.split, boxes.split).is_ok(),
+        ops.add_reducer(names.top, boxes.top).is_ok(),
+        ops.add_combiner(names.difference, boxes.difference).is_ok(),
+        ops.add_combiner(names.pairs, boxes.pairs).is_ok(),
+    ];
+    // No name stands twice, so that a refusal is want of memory.
+    if added != [true; 6] {
+        return Status::NoMemory;
+    }
+    let mut store = FileStore::new(alloc, rt);
+    scope_main(alloc, words, &mut store, &ops)
+}
+
+fn shipped_boxes(alloc: Global) -> Result<Boxes, AllocError> {
+    Ok(Boxes {
+        log: Box::new(alloc, LogExtractor)?,
+        text: Box::new(alloc, TextExtractor)?,
+        split: Box::new(alloc, SplitWords)?,
+        top: Box::new(alloc, TopQueries)?,
+        difference: Box::new(alloc, MultiSetDifference)?,
+        pairs: Box::new(alloc, InnerPairs)?,
+    })
 }
 
 fn shipped_names(alloc: Global) -> Result<Names, AllocError> {
