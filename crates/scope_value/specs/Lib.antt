@@ -2,5 +2,6 @@ pub mod Bags
 pub mod Fits
 pub mod Keys
 pub mod Laws
+pub mod Lent
 pub mod Order
 pub mod Sorted

@@ -12,6 +12,7 @@ mod schema;
 #[cfg(test)]
 mod tests;
 mod value;
+mod value_ref;
 
 pub use cell::Cell;
 pub use fitting::fits;
@@ -20,3 +21,4 @@ pub use laws::{bag_law, key_order_law, sorted_bag_law, value_order_law};
 pub use row::Row;
 pub use schema::{ColType, Column, Schema};
 pub use value::Value;
+pub use value_ref::ValueRef;

@@ -6,6 +6,7 @@ ghost use Rattle.std.specs.Cmp.{partial_order_from_agreeing_total, partial_equiv
 ghost use Rattle.std.proofs.lemmas.Cmp.{eq_by_cmp_equiv};
 
 use crate::cell::Cell;
+use crate::value_ref::ValueRef;
 use std::alloc::AllocError;
 use std::cmp::Ordering;
 use std::hash::{Hash, Hasher};
@@ -23,6 +24,7 @@ pub enum Value {
 
 impl Value {
     ghost use Rattle.scope_value.specs.Order as spec;
+    ghost use Rattle.scope_value.specs.Lent.{held};
 
     /// The same value, in memory of its own.
     pub fn copy(&self) -> Result<Value, AllocError>
@@ -31,46 +33,24 @@ impl Value {
         self.clone()
     }
 
-    fn rank(&self) -> u8
-        ensures { result ≡ spec.rank self.now }
+    /// The value, lent.
+    pub fn lend(&self) -> ValueRef<'_>
+        ensures { held result ≡ self.now }
     {
         match self {
-            Value::Null => 0,
-            Value::Bool(false) => 1,
-            Value::Bool(true) => 2,
-            Value::Int(_) => 3,
-            Value::Bytes(_) => 4,
-            Value::Wide(_) => 5,
-        }
-    }
-
-    fn number(&self) -> i128
-        ensures { result ≡ spec.number self.now }
-    {
-        match self {
-            Value::Int(n) => i128::from(*n),
-            Value::Wide(n) => *n,
-            _ => 0,
-        }
-    }
-
-    fn text(&self) -> &[u8]
-        ensures { result.now ≡ spec.text self.now }
-    {
-        match self {
-            Value::Bytes(c) => c.as_slice(),
-            _ => &[],
+            Value::Null => ValueRef::Null,
+            Value::Bool(b) => ValueRef::Bool(*b),
+            Value::Int(n) => ValueRef::Int(*n),
+            Value::Bytes(cell) => ValueRef::Bytes(cell.as_slice()),
+            Value::Wide(n) => ValueRef::Wide(*n),
         }
     }
 
     /// The one order of values: null, false, true, numbers by value, strings by bytes, partial sums by value.
-    #[tactic(auto, unfolding(crate::specs::Order::value_cmp))]
     pub fn compare(&self, other: &Value) -> Ordering
         ensures { result ≡ spec.value_cmp self.now other.now }
     {
-        let by_text = self.text().cmp(&other.text());
-        let by_number = self.number().cmp(&other.number());
-        self.rank().cmp(&other.rank()).then(by_number.then(by_text))
+        self.lend().compare(other.lend())
     }
 }
 
@@ -128,8 +108,6 @@ impl Hash for Value {
     ghost respects_eq = { λ x y h. ap spec.value_writes ((spec.value_eq-decides x y).0 h) };
 
     fn hash<H: Hasher>(&self, state: &mut H) {
-        self.rank().hash(state);
-        self.number().hash(state);
-        self.text().hash(state);
+        self.lend().hash(state);
     }
 }

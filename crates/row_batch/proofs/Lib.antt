@@ -1,0 +1,4 @@
+pub mod PieceLemmas
+pub mod CodeLemmas
+pub mod RowLemmas
+pub mod CompareLemmas

@@ -1,0 +1,16 @@
+use Rattle.std.proofs.Common.{◌≡◌, ◌∙◌, ap, refl, sym, List, length, map, ◌++◌}
+use Rattle.std.proofs.lemmas.List.{length-map}
+use Rattle.scope_value.specs.declared.value.Value.{Value}
+use Rattle.scope_value.specs.Lent.{held}
+use Rattle.row_batch.specs.Rows.{Rows}
+use Rattle.row_batch.proofs.RowLemmas.{unseen, added_row, on_err}
+use Rattle.row_batch.proofs.batch.Batch.push_lent.Goals as goal
+
+pub returns-in_err-push_lent-clause-err : goal.returns-in_err-push_lent-clause-err
+returns-in_err-push_lent-clause-err c = on_err c.from_residual.result (unseen _ _ _ _ _ _ c.self.invariant c.in_err-push_lent.ensures.err refl (ap (λ (b : Rows). b.rows) c.self.view_is))
+
+pub returns-in_err-push-clause-err : goal.returns-in_err-push-clause-err
+returns-in_err-push-clause-err c = on_err c.from_residual-in_err-push.result (unseen _ _ _ _ _ _ c.self.invariant (map held c.args.row.now, c.in_ok-push_lent.ensures.ok) c.in_err-push.ensures.items (ap (λ (b : Rows). b.rows) c.self.view_is))
+
+pub returns-clause-ok : goal.returns-clause-ok
+returns-clause-ok c = added_row _ _ _ _ _ _ _ _ c.self.invariant (length-map c.args.row.now held ∙ c.requires ∙ ap (λ (b : Rows). b.width) (sym c.self.view_is)) c.in_ok-push_lent.ensures.ok c.len-start.ensures c.in_ok-push.ensures.items (ap (λ (b : Rows). b.rows) c.self.view_is)
