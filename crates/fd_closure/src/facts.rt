@@ -5,7 +5,7 @@ ghost use Rattle.col_sets.specs.Sets.{with_column};
 use col_sets::{ColId, ColSet};
 
 /// What is known of the rows of a bag. The fields hold one entry a column below 128.
-#[derive(Clone, Copy, Debug)]
+#[derive(Clone, Copy)]
 pub struct Facts {
     /// The columns of the rows.
     pub columns: ColSet,

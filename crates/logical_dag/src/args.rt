@@ -6,7 +6,7 @@ use sqlite_items::Items;
 
 /// What a Group is handed: the columns of its key and its aggregates. `written` has the list of GROUP BY, and is `None`
 /// for DISTINCT and without GROUP BY.
-#[derive(Debug, Drop)]
+#[derive(Drop)]
 pub struct GroupArgs {
     pub written: Option<KeyCols>,
     pub keys: ColSet,
@@ -14,7 +14,7 @@ pub struct GroupArgs {
 }
 
 /// The call of a user operator: its place among those of its kind, its args, the columns that it gives and their schema.
-#[derive(Debug, Drop)]
+#[derive(Drop)]
 pub struct CallArgs {
     pub op: u32,
     pub args: Items<Cell>,
@@ -23,7 +23,7 @@ pub struct CallArgs {
 }
 
 /// How many rows a Top keeps, and the order in which they are the first.
-#[derive(Clone, Copy, Debug)]
+#[derive(Clone, Copy)]
 pub struct TopArgs {
     pub n: u64,
     pub order: KeyOrders,

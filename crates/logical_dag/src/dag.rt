@@ -9,7 +9,7 @@ use scope_value::{Cell, Schema};
 use sqlite_items::Items;
 
 /// A stream that is read: its name, the place and the args of its extractor, and the columns of its rows.
-#[derive(Debug, Drop)]
+#[derive(Drop)]
 pub struct ScanDecl {
     pub stream: Cell,
     pub op: u32,
@@ -19,7 +19,7 @@ pub struct ScanDecl {
 
 /// A stream that is written: its name, the byte between its fields, the order of its rows, if it has one, and the
 /// expression that gives them.
-#[derive(Debug, Drop)]
+#[derive(Drop)]
 pub struct Output {
     pub name: Cell,
     pub delimiter: u8,
@@ -29,7 +29,7 @@ pub struct Output {
 
 /// What a script does: the streams that it reads, the results that several consumers share, and what it writes. Binding
 /// numbers the scans through the trees in post-order, the shared trees before those of the outputs.
-#[derive(Debug, Drop)]
+#[derive(Drop)]
 pub struct Dag {
     pub scans: Items<ScanDecl>,
     pub shared: Items<Logical>,

@@ -8,7 +8,7 @@ use sqlite_items::Items;
 /// What a node of an expression does with the bags of its children. `cols` are the columns that it numbers afresh. A pair
 /// of columns that are set equal has the left child's column first. Binding gives all kinds but the last four, which
 /// stand for the two steps of a Group and of a Top.
-#[derive(Debug, Drop)]
+#[derive(Drop)]
 pub enum LogicOp {
     /// The rows of a stream.
     Scan {

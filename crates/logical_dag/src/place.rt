@@ -1,7 +1,7 @@
 // Expressions of a script by number.
 
 /// Which expression of a node is meant.
-#[derive(Clone, Copy, Debug, PartialEq, Eq)]
+#[derive(Clone, Copy, PartialEq, Eq)]
 pub enum PlacePart {
     /// The node itself.
     Whole,
@@ -13,7 +13,7 @@ pub enum PlacePart {
 
 /// An expression of a Dag: its tree, the shared ones counted before those of the outputs, its node in post-order, and
 /// which expression of the node it is. All are counted from 0.
-#[derive(Clone, Copy, Debug, PartialEq, Eq)]
+#[derive(Clone, Copy, PartialEq, Eq)]
 pub struct Place {
     pub tree: u32,
     pub node: u32,

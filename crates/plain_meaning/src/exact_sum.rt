@@ -8,7 +8,7 @@ ghost use Rattle.scope_value.specs.Order as order;
 use scope_value::Value;
 
 /// The sum `low + turns * 2^128`. A sum of 128 bits has no turns.
-#[derive(Clone, Copy, Debug)]
+#[derive(Clone, Copy)]
 pub(crate) struct ExactSum {
     low: i128,
     turns: i128,
