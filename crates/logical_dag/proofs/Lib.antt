@@ -40,7 +40,4 @@ pub mod Reading
 pub mod RowValues
 pub mod Shapes
 pub mod SharedFacts
-pub mod ShowingBindable
-pub mod ShowingFormed
-pub mod ShowingTall
 pub mod Split

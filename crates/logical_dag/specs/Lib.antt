@@ -11,6 +11,4 @@ pub mod Meaning
 pub mod Places
 pub mod Rows
 pub mod Scripts
-pub mod Showing
-pub mod Tall
 pub mod Tree

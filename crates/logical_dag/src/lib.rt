@@ -21,8 +21,6 @@ mod logical;
 mod naming;
 mod place;
 mod stated;
-#[cfg(test)]
-mod tests;
 
 pub use agg::Agg;
 pub use args::{CallArgs, GroupArgs, TopArgs};

@@ -2,5 +2,4 @@ pub mod DistinctLemmas
 pub mod GroupingLemmas
 pub mod PlainLemmas
 pub mod RangeLemmas
-pub mod ShowingFits
 pub mod SumLemmas

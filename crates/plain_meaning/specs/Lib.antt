@@ -1,4 +1,3 @@
 pub mod Plain
-pub mod Showing
 pub mod Steps
 pub mod Sums

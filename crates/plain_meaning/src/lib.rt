@@ -1,7 +1,7 @@
 //! The plain program of what expressions mean.
 //!
 //! [`plain_bag`] computes a bag that stands for an expression, each kind by going through the whole lists below it. It is
-//! slow, and short enough to read beside the definition in `logical_dag`, whose worked rows are this crate's tests.
+//! slow, and short enough to read beside the definition in `logical_dag`.
 #![tactic(auto)]
 
 mod aggregate;
@@ -15,7 +15,5 @@ mod kernels;
 mod keyed;
 mod orders;
 mod plain;
-#[cfg(test)]
-mod tests;
 
 pub use plain::plain_bag;

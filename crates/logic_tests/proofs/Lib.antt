@@ -1,0 +1,4 @@
+mod ShowingFits
+mod TallFormed
+mod WorkedBindable
+mod WorkedFormed

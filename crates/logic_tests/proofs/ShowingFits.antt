@@ -1,0 +1,16 @@
+-- Operators that take no schemas owe no fitting rows.
+use Rattle.std.proofs.Common.{ℕ, List}
+use Rattle.scope_value.specs.declared.value.Value.{Value}
+use Rattle.user_ops.specs.Appends.{GivesFitting, GroupGivesFitting, PairGivesFitting}
+use Rattle.logic_tests.specs.Showing.{row_shown, group_shown, side_shown}
+
+pub row_shown-fits : (args : List (List ℕ)) (row : List Value) → GivesFitting row_shown args row
+row_shown-fits args row = record { fit = λ input output taken fits. absurd (cc) }
+
+pub group_shown-fits : (args : List (List ℕ)) (rows : List (List Value)) → GroupGivesFitting group_shown args rows
+group_shown-fits args rows = record { fit = λ input output taken fits. absurd (cc) }
+
+pub side_shown-fits : (args : List (List ℕ)) (left right : List (List Value)) → PairGivesFitting side_shown args left right
+side_shown-fits args left right = record { fit = λ input other output taken fits fit_too. absurd (cc) }
+
+pub ruleset showing_rules = (row_shown-fits, group_shown-fits, side_shown-fits)

@@ -1,0 +1,7 @@
+-- The expression so far calls no other operators.
+use Rattle.logical_dag.specs.Tree.{tree_of}
+use Rattle.logic_tests.specs.Calling.{AreCalledFirst}
+use Rattle.logic_tests.proofs.nodes.over_scan.Given as goal
+
+abbrev pub invariant-loop-node : goal.invariant-loop-node
+invariant-loop-node l = AreCalledFirst (tree_of l.tree)

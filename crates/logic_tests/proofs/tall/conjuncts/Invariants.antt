@@ -1,0 +1,7 @@
+-- The predicate so far is over the columns 0 to 3.
+use Rattle.logical_dag.specs.Formed.{IsOver}
+use Rattle.logic_tests.specs.Tall.{four_columns}
+use Rattle.logic_tests.proofs.tall.conjuncts.Given as goal
+
+abbrev pub invariant-loop : goal.invariant-loop
+invariant-loop l = IsOver four_columns l.all

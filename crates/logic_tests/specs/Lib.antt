@@ -1,0 +1,4 @@
+pub mod Calling
+pub mod Showing
+pub mod Tall
+pub mod Worked

@@ -1,0 +1,114 @@
+// What is known of the rows of small expressions, worked out by hand.
+use crate::making::set_of;
+use crate::scripts::{Script, dag_of};
+use col_sets::{ColId, ColSet};
+use fd_closure::{Facts, closure};
+use logical_dag::{Place, PlacePart, facts_at};
+use std::alloc::{AllocError, Global};
+use std::process::Abort;
+use std::test::Fail;
+
+// What is known of the part of a node of the script's only tree.
+fn facts_in(
+    alloc: Global,
+    script: Script,
+    node: u32,
+    part: PlacePart,
+) -> Result<Facts, AllocError> {
+    let place = Place {
+        tree: 0,
+        node,
+        part,
+    };
+    let dag = dag_of(alloc, script)?;
+    Ok(facts_at(&dag, &place))
+}
+
+// What is known of it: its columns, the constants, and the columns that those of `from` force.
+#[derive(Clone, Copy)]
+struct Known {
+    columns: ColSet,
+    constants: ColSet,
+    from: ColSet,
+    forced: ColSet,
+}
+
+fn known_of(columns: &[ColId], constants: &[ColId], from: &[ColId], forced: &[ColId]) -> Known {
+    Known {
+        columns: set_of(columns),
+        constants: set_of(constants),
+        from: set_of(from),
+        forced: set_of(forced),
+    }
+}
+
+fn check(
+    rt: &impl Abort,
+    alloc: Global,
+    script: Script,
+    node: u32,
+    part: PlacePart,
+    wanted: Known,
+) -> Result<(), AllocError> {
+    let facts = facts_in(alloc, script, node, part)?;
+    assert_eq!(rt; facts.columns, wanted.columns);
+    assert_eq!(rt; facts.constants, wanted.constants);
+    assert_eq!(rt; closure(&facts, wanted.from), wanted.forced);
+    Ok(())
+}
+
+// Node 1 is the Filter, whose columns 0 to 2 are linked and whose column 3 is constant: a signed number is no constant.
+// Above the Group, node 2, the columns that are no key are gone, and the key determines the aggregate; its first step knows
+// of its key alone. There is no node 3.
+#[test]
+fn parts_of_a_group_have_their_facts(rt: HostRuntime) -> Result<(), Fail> {
+    let table: [(u32, PlacePart, &[ColId], &[ColId], &[ColId], &[ColId]); 7] = [
+        (
+            1,
+            PlacePart::Whole,
+            &[0, 1, 2, 3],
+            &[3],
+            &[1],
+            &[0, 1, 2, 3],
+        ),
+        (
+            1,
+            PlacePart::Whole,
+            &[0, 1, 2, 3],
+            &[3],
+            &[2],
+            &[0, 1, 2, 3],
+        ),
+        (1, PlacePart::Whole, &[0, 1, 2, 3], &[3], &[], &[3]),
+        (2, PlacePart::Whole, &[1, 4], &[], &[1], &[1, 4]),
+        (2, PlacePart::Whole, &[1, 4], &[], &[4], &[4]),
+        (2, PlacePart::Lower, &[1, 4], &[], &[1], &[1]),
+        (3, PlacePart::Whole, &[], &[], &[1], &[1]),
+    ];
+    for (node, part, columns, constants, from, forced) in table {
+        let wanted = known_of(columns, constants, from, forced);
+        check(&rt, rt.alloc(), Script::Counts, node, part, wanted)?;
+    }
+    Ok(())
+}
+
+// Node 4 joins the leaves 0 to 2, whose columns are 0, then 1 and 2, then 3, and node 2 the first two of them. Of some of
+// them what is set equal across them counts alone.
+#[test]
+fn parts_of_a_block_have_their_facts(rt: HostRuntime) -> Result<(), Fail> {
+    let table: [(u32, u8, &[ColId], &[ColId], &[ColId]); 7] = [
+        (4, 0b001, &[0], &[0], &[0]),
+        (4, 0b010, &[1, 2], &[1], &[1]),
+        (4, 0b011, &[0, 1, 2], &[0], &[0, 1]),
+        (4, 0b110, &[1, 2, 3], &[1], &[1, 3]),
+        (4, 0b111, &[0, 1, 2, 3], &[0], &[0, 1, 3]),
+        (2, 0b010, &[1, 2], &[1], &[1]),
+        (2, 0b011, &[0, 1, 2], &[0], &[0, 1]),
+    ];
+    for (node, leaves, columns, from, forced) in table {
+        let part = PlacePart::Leaves(leaves);
+        let wanted = known_of(columns, &[], from, forced);
+        check(&rt, rt.alloc(), Script::Joins, node, part, wanted)?;
+    }
+    Ok(())
+}

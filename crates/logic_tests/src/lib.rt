@@ -1,0 +1,19 @@
+//! Tests that stand on several crates of the logical layer.
+#![tactic(auto)]
+
+#[cfg(test)]
+mod facts;
+#[cfg(test)]
+mod making;
+#[cfg(test)]
+mod meaning;
+#[cfg(test)]
+mod nodes;
+#[cfg(test)]
+mod operators;
+#[cfg(test)]
+mod scripts;
+#[cfg(test)]
+mod tall;
+#[cfg(test)]
+mod trees;

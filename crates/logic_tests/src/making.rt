@@ -1,0 +1,86 @@
+// Parts of expressions.
+ghost use Rattle.std.specs.Prelude.{◌≡◌, [], ◌∷◌, IfOk};
+ghost use Rattle.logical_dag.specs.Tree.{leaf, one, two, tree_of};
+ghost use Rattle.logic_tests.specs.Worked as spec;
+
+use arrayvec::ArrayVec;
+use col_sets::{ColId, ColSet};
+use logical_dag::{LogicOp, Logical};
+use scope_expr::{Expr, PairOp};
+use scope_value::{ColType, Value};
+use sqlite_items::{Boxed, Items};
+use std::alloc::{AllocError, Global};
+
+/// The set of the columns.
+pub fn set_of(cols: &[ColId]) -> ColSet {
+    let mut set = ColSet::empty();
+    for c in cols {
+        set = set.with(*c);
+    }
+    set
+}
+
+/// The scan of that number.
+pub fn scan(alloc: Global, number: u32, cols: ColSet) -> Logical
+    ensures { tree_of result ≡ leaf (LogicOp.Scan number cols) }
+{
+    Logical {
+        op: LogicOp::Scan { scan: number, cols },
+        kids: Items::new(alloc),
+    }
+}
+
+/// An operator over one child.
+pub fn over(alloc: Global, op: LogicOp, kid: Logical) -> Result<Logical, AllocError>
+    ensures { IfOk result (λ t. tree_of t ≡ one op (tree_of kid)) }
+{
+    let mut kids = Items::new(alloc);
+    kids.push(kid)?;
+    Ok(Logical { op, kids })
+}
+
+/// The same over two, the right one being the scan of that number.
+pub fn beside_scan(
+    alloc: Global,
+    op: LogicOp,
+    left: Logical,
+    number: u32,
+    cols: ColSet,
+) -> Result<Logical, AllocError>
+    ensures { IfOk result (λ t. tree_of t ≡ two op (tree_of left) (leaf (LogicOp.Scan number cols))) }
+{
+    let mut kids = Items::new(alloc);
+    kids.push(left)?;
+    kids.push(scan(alloc, number, cols))?;
+    Ok(Logical { op, kids })
+}
+
+/// The pairs of rows that agree in the columns `a` on the left and `b` on the right.
+pub fn on_pair(a: ColId, b: ColId) -> LogicOp
+    ensures { result ≡ spec.on_pair a b }
+{
+    let mut on = ArrayVec::new();
+    on.push((a, b));
+    LogicOp::Join { on }
+}
+
+/// A column of numbers.
+pub fn column(c: ColId) -> Expr
+    ensures { result ≡ Expr.Col c ColType.Long }
+{
+    Expr::Col(c, ColType::Long)
+}
+
+/// A number.
+pub fn number(n: i64) -> Expr
+    ensures { result ≡ Expr.Literal (Value.Int n) }
+{
+    Expr::Literal(Value::Int(n))
+}
+
+/// An operator between two expressions.
+pub fn pair(alloc: Global, op: PairOp, a: Expr, b: Expr) -> Result<Expr, AllocError>
+    ensures { IfOk result (λ e. e ≡ Expr.Pair op a b) }
+{
+    Ok(Expr::Pair(op, Boxed::new(alloc, a)?, Boxed::new(alloc, b)?))
+}

@@ -1,6 +1,0 @@
-use Rattle.std.proofs.Common.{[]}
-use Rattle.logical_dag.proofs.ShowingBindable.{counted-written}
-use Rattle.logical_dag.proofs.tests.scripts.count_script.Goals as goal
-
-pub script_of-requires-clause-written : goal.script_of-requires-clause-written
-script_of-requires-clause-written c = rw c.in_ok-counted.ensures (counted-written [])

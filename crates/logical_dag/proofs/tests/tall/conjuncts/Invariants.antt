@@ -1,7 +1,0 @@
--- The predicate so far is over the columns 0 to 3.
-use Rattle.logical_dag.specs.Formed.{IsOver}
-use Rattle.logical_dag.specs.Tall.{four_columns}
-use Rattle.logical_dag.proofs.tests.tall.conjuncts.Given as goal
-
-abbrev pub invariant-loop : goal.invariant-loop
-invariant-loop l = IsOver four_columns l.all

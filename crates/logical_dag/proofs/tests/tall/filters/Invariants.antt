@@ -1,7 +1,0 @@
--- The expression so far is formed, and its columns stay those of the scan.
-use Rattle.logical_dag.specs.Tree.{tree_of}
-use Rattle.logical_dag.specs.Tall.{IsOverFour}
-use Rattle.logical_dag.proofs.tests.tall.filters.Given as goal
-
-abbrev pub invariant-loop : goal.invariant-loop
-invariant-loop l = IsOverFour (tree_of l.tree)

@@ -1,8 +1,0 @@
-use Rattle.std.proofs.Common.{refl}
-use Rattle.scope_expr.specs.declared.op.PairOp.TheVariants.{Eq}
-use Rattle.logical_dag.proofs.ShowingTall.{column-over, made-over}
-use Rattle.logical_dag.proofs.tests.tall.link.Goals as goal
-
-pub returns : goal.returns
-returns c =
-    made-over c.pair.result Eq c.column.result c.column-2.result (column-over c.column.result 0 c.column.ensures refl) (column-over c.column-2.result 1 c.column-2.ensures refl) c.pair.ensures
