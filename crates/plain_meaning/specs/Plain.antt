@@ -1,12 +1,12 @@
 -- What the plain program computes in steps.
-use Rattle.std.specs.Prelude.{◌<◌, ℕ, List, length, map, filter, flat_map, Option, Vec, if◌then◌else◌}
+use Rattle.std.specs.Prelude.{◌<◌, Bool, true, false, ℕ, List, length, map, filter, flat_map, Option, Vec, if◌then◌else◌}
 use Rattle.std.proofs.Common.{Global}
 use Rattle.col_sets.specs.declared.dir.Dir.{Dir}
 use Rattle.col_sets.specs.Sets.{has}
 use Rattle.structural_props.specs.Rows.{value_at}
 use Rattle.user_ops.specs.Told.{Operators}
 use Rattle.logical_dag.specs.declared.logic_op.LogicOp.{LogicOp}
-use Rattle.logical_dag.specs.declared.logic_op.LogicOp.TheVariants.{Process, Reduce, Combine}
+use Rattle.logical_dag.specs.declared.logic_op.LogicOp.TheVariants.{Process, Reduce, Combine, Group, Top, Partial, Finish, LocalTop, LastTop}
 use Rattle.logical_dag.specs.Tree.{Expression, leaf, one, two}
 use Rattle.logical_dag.specs.Rows.{Row, Bag, row_over, agree_on, with_key, keys_among, in_order, order_of, left_columns, right_columns, keys_of_both}
 use Rattle.logical_dag.specs.Meaning.{Sources}
@@ -22,6 +22,10 @@ partners on left right cols r B = map (merged_over cols left right r) (filter (a
 -- the pairs of rows that agree, over these columns
 abbrev pub joined_over : List (ℕ × ℕ) → List ℕ → List ℕ → List ℕ → Bag → Bag → Bag
 joined_over on left right cols A B = flat_map (λ r. partners on left right cols r B) A
+
+-- the rows of a key, in the order of the presort
+abbrev pub group_at : List ℕ → List ℕ → Option (List (ℕ × Dir)) → Bag → Row → Bag
+group_at cols on presort rows k = in_order cols (order_of presort) (with_key cols on k rows)
 
 -- what a function of groups gives for the rows of each key, in the order of the presort
 abbrev pub reduced_by : (Bag → Bag) → List ℕ → List ℕ → Option (List (ℕ × Dir)) → Bag → Bag
@@ -40,6 +44,16 @@ combined_by gives left right on left_presort right_presort A B =
 abbrev pub sources : List (Vec Row Global) → List (Vec Row Global) → Sources
 sources scans shared = record { scans = map (λ v. v.items) scans; shared = map (λ v. v.items) shared }
 
+-- a Group, a Top, or a step of either
+abbrev pub is_step : LogicOp → Bool
+is_step (Group args) = true
+is_step (Top args) = true
+is_step (Partial args) = true
+is_step (Finish args) = true
+is_step (LocalTop args) = true
+is_step (LastTop args) = true
+is_step op = false
+
 -- the user operator that a node calls is there
 abbrev pub IsThere : Operators → LogicOp → Type 0
 IsThere ops (Process call) = call.op < length ops.processors
@@ -52,7 +66,3 @@ abbrev pub AreThere : Operators → Expression → Type 0
 AreThere ops (leaf op) = IsThere ops op
 AreThere ops (one op t) = IsThere ops op × AreThere ops t
 AreThere ops (two op t u) = IsThere ops op × AreThere ops t × AreThere ops u
-
--- the expression calls no user operator
-abbrev pub CallsNone : Expression → Type 0
-CallsNone t = (ops : Operators) → AreThere ops t

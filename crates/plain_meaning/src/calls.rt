@@ -1,10 +1,10 @@
 // What user operators give: row by row, group by group, and group beside group.
-ghost use Rattle.std.specs.Prelude.{◌≡◌, ◌++◌, ◌<◌, length, map, flat_map, IfOk};
+ghost use Rattle.std.specs.Prelude.{◌≡◌, ◌++◌, ◌<◌, length, map, flat_map, IfOk, OnOk};
 ghost use Rattle.user_ops.specs.Told.{processes_at};
 ghost use Rattle.structural_props.specs.Rows.{key_of};
 ghost use Rattle.logical_dag.specs.Rows.{with_key};
 ghost use Rattle.logical_dag.specs.Rows as spec;
-ghost use Rattle.plain_meaning.specs.Plain.{reduced_by, combined_by};
+ghost use Rattle.plain_meaning.specs.Plain.{group_at, reduced_by, combined_by};
 
 use crate::keyed::{distinct_rows, keys_among, keys_of, rows_with_key};
 use crate::orders::{order_of, rows_in_order};
@@ -20,6 +20,13 @@ pub(crate) struct Input<'a> {
     pub cols: ColSet,
     pub presort: &'a Option<KeyOrders>,
     pub rows: &'a [Row],
+}
+
+// One side of a combiner: the columns of its key and its rows.
+#[derive(Clone, Copy)]
+struct Side<'a, 'b> {
+    on: &'a [ColId],
+    input: &'a Input<'b>,
 }
 
 /// What the processor gives for each row.
@@ -116,10 +123,26 @@ fn reduce_each(
     let keys = keys_among(alloc, input.cols, on, input.rows)?;
     let mut given = Vec::new(alloc);
     for k in keys.as_slice() {
-        let group = group_in_order(alloc, on, input, k)?;
-        op.reduce(alloc, args, group.as_slice(), &mut given)?;
+        reduce_key(alloc, op, args, on, input, k, &mut given)?;
     }
     Ok(given)
+}
+
+// Adds what the reducer gives for the rows of a key.
+fn reduce_key(
+    alloc: Global,
+    op: &dyn Reducer,
+    args: &[Cell],
+    on: &[ColId],
+    input: &Input<'_>,
+    k: &Row,
+    given: &mut Vec<Row>,
+) -> Result<(), AllocError>
+    ensures { OnOk result (given.new.items
+        ≡ given.old.items ++ (told_reducer op.now).reduces args.now (group_at input.now.cols on.now input.now.presort.now input.now.rows.now k.now)) }
+{
+    let group = group_in_order(alloc, on, input, k)?;
+    op.reduce(alloc, args, group.as_slice(), given)
 }
 
 // The rows of a key, in the order of the presort.
@@ -193,17 +216,37 @@ fn combine_each(
     let keys = keys_of_both(alloc, mine.as_slice(), other.as_slice(), left, right)?;
     let mut given = Vec::new(alloc);
     for k in keys.as_slice() {
-        let before = group_in_order(alloc, mine.as_slice(), left, k)?;
-        let beside = group_in_order(alloc, other.as_slice(), right, k)?;
-        op.combine(
-            alloc,
-            args,
-            before.as_slice(),
-            beside.as_slice(),
-            &mut given,
-        )?;
+        let before = Side {
+            on: mine.as_slice(),
+            input: &*left,
+        };
+        let beside = Side {
+            on: other.as_slice(),
+            input: &*right,
+        };
+        combine_key(alloc, op, args, before, beside, k, &mut given)?;
     }
     Ok(given)
+}
+
+// Adds what the combiner gives for the rows of a key on both sides.
+fn combine_key(
+    alloc: Global,
+    op: &dyn Combiner,
+    args: &[Cell],
+    left: Side<'_, '_>,
+    right: Side<'_, '_>,
+    k: &Row,
+    given: &mut Vec<Row>,
+) -> Result<(), AllocError>
+    ensures { OnOk result (given.new.items
+        ≡ given.old.items ++ (told_combiner op.now).combines args.now
+        (group_at left.entry.input.now.cols left.entry.on.now left.entry.input.now.presort.now left.entry.input.now.rows.now k.now)
+        (group_at right.entry.input.now.cols right.entry.on.now right.entry.input.now.presort.now right.entry.input.now.rows.now k.now)) }
+{
+    let before = group_in_order(alloc, left.on, left.input, k)?;
+    let beside = group_in_order(alloc, right.on, right.input, k)?;
+    op.combine(alloc, args, before.as_slice(), beside.as_slice(), given)
 }
 
 // The columns of the pairs on the left.

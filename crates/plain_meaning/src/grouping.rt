@@ -2,7 +2,7 @@
 ghost use Rattle.std.specs.Prelude.{◌≡◌, [], ◌∷◌, map, IfOk};
 ghost use Rattle.logical_dag.specs.Rows.{grouped, finished, agg_at};
 ghost use Rattle.logical_dag.specs.Rows as spec;
-ghost use Rattle.plain_meaning.specs.Steps.{value_of, partial_row};
+ghost use Rattle.plain_meaning.specs.Steps.{value_in, value_of, partial_row};
 
 use crate::aggregate::{finished_value, partial_value, whole_value};
 use crate::columns::columns_in;
@@ -54,7 +54,26 @@ fn agg_value(
     Ok(Value::Null)
 }
 
-// The row of the group with the key `k`, whose rows these are.
+// The value in a column of the row of the group with the key `k`, whose rows these are.
+fn group_value(
+    alloc: Global,
+    step: Step,
+    args: &GroupArgs,
+    cols: ColSet,
+    k: &Row,
+    rows: &Vec<Row>,
+    c: ColId,
+) -> Result<Value, AllocError>
+    ensures { IfOk result (λ v. v ≡ value_in args.now (λ a. value_of step cols a rows.now.items) k.now c) }
+{
+    if args.keys.has(c) {
+        value_at(args.keys, k, c)
+    } else {
+        agg_value(alloc, step, args.aggs.as_slice(), cols, c, rows)
+    }
+}
+
+// That row.
 fn group_row(
     alloc: Global,
     step: Step,
@@ -68,13 +87,25 @@ fn group_row(
     let columns = columns_in(alloc, group_columns(args))?;
     let mut row = Row::new(alloc);
     for c in &columns {
-        row.push(if args.keys.has(*c) {
-            value_at(args.keys, k, *c)?
-        } else {
-            agg_value(alloc, step, args.aggs.as_slice(), cols, *c, rows)?
-        })?;
+        row.push(group_value(alloc, step, args, cols, k, rows, *c)?)?;
     }
     Ok(row)
+}
+
+// The row of the rows that have the key `k`, whose columns are `key`.
+fn row_of_key(
+    alloc: Global,
+    step: Step,
+    args: &GroupArgs,
+    cols: ColSet,
+    key: &[ColId],
+    k: &Row,
+    rows: &[Row],
+) -> Result<Row, AllocError>
+    ensures { IfOk result (λ row. row ≡ spec.group_row args.now (λ a. value_of step cols a (spec.with_key cols key.now k.now rows.now)) k.now) }
+{
+    let group = rows_with_key(alloc, cols, key, k, rows)?;
+    group_row(alloc, step, args, cols, k, &group)
 }
 
 // For each of these keys, the row of the rows that have it.
@@ -91,8 +122,7 @@ fn rows_of_keys(
     let key = columns_in(alloc, args.keys)?;
     let mut made = Vec::new(alloc);
     for k in keys {
-        let group = rows_with_key(alloc, cols, key.as_slice(), k, rows)?;
-        made.push(group_row(alloc, step, args, cols, k, &group)?)?;
+        made.push(row_of_key(alloc, step, args, cols, key.as_slice(), k, rows)?)?;
     }
     Ok(made)
 }
@@ -141,22 +171,48 @@ fn partial_at(aggs: &[Agg], cols: ColSet, c: ColId, row: &Row) -> Result<Value, 
     Ok(Value::Null)
 }
 
+// The value in a column of the partial row of a row with the key `k` that is a part of its own.
+fn part_value(
+    args: &GroupArgs,
+    cols: ColSet,
+    k: &Row,
+    row: &Row,
+    c: ColId,
+) -> Result<Value, AllocError>
+    ensures { IfOk result (λ v. v ≡ value_in args.now (λ a. spec.partial_value cols a (row.now ∷ [])) k.now c) }
+{
+    if args.keys.has(c) {
+        value_at(args.keys, k, c)
+    } else {
+        partial_at(args.aggs.as_slice(), cols, c, row)
+    }
+}
+
+// That row.
+fn part_row(
+    alloc: Global,
+    args: &GroupArgs,
+    cols: ColSet,
+    k: &Row,
+    row: &Row,
+) -> Result<Row, AllocError>
+    ensures { IfOk result (λ made. made ≡ spec.group_row args.now (λ a. spec.partial_value cols a (row.now ∷ [])) k.now) }
+{
+    let columns = columns_in(alloc, group_columns(args))?;
+    let mut made = Row::new(alloc);
+    for c in &columns {
+        made.push(part_value(args, cols, k, row, *c)?)?;
+    }
+    Ok(made)
+}
+
 // The partial row of a row that is a part of its own.
 fn partial_row(alloc: Global, args: &GroupArgs, cols: ColSet, row: &Row) -> Result<Row, AllocError>
     ensures { IfOk result (λ made. made ≡ partial_row args.now cols row.now) }
 {
     let key = columns_in(alloc, args.keys)?;
     let k = key_of(alloc, cols, key.as_slice(), row)?;
-    let columns = columns_in(alloc, group_columns(args))?;
-    let mut made = Row::new(alloc);
-    for c in &columns {
-        made.push(if args.keys.has(*c) {
-            value_at(args.keys, &k, *c)?
-        } else {
-            partial_at(args.aggs.as_slice(), cols, *c, row)?
-        })?;
-    }
-    Ok(made)
+    part_row(alloc, args, cols, &k, row)
 }
 
 /// A partial row for each row, each row being a part of its own.

@@ -4,7 +4,8 @@ ghost use Rattle.logical_dag.specs.Tree.{tree_of};
 ghost use Rattle.logical_dag.specs.Formed.{arity, has_children};
 ghost use Rattle.logical_dag.specs.Meaning.{GivesLeaf, GivesOne, GivesTwo, StandsFor};
 ghost use Rattle.logical_dag.specs.Meaning as spec;
-ghost use Rattle.plain_meaning.specs.Plain.{sources, IsThere, AreThere};
+ghost use Rattle.user_ops.specs.Told.{Operators};
+ghost use Rattle.plain_meaning.specs.Plain.{sources, is_step, IsThere, AreThere};
 
 use crate::calls::{Input, combined_rows, processed_rows, reduced_rows};
 use crate::grouping::{finished_rows, grouped_rows, partial_rows};
@@ -125,14 +126,36 @@ fn one_bag(
             };
             Ok(Some(reduced_rows(alloc, ops, call, on.as_slice(), &input)?))
         }
-        LogicOp::Top(args) => Ok(Some(first_rows(alloc, args, cols, rows)?)),
-        // The first rows are some of the rows.
-        LogicOp::LocalTop(args) => Ok(Some(first_rows(alloc, args, cols, rows)?)),
-        LogicOp::LastTop(args) => Ok(Some(first_rows(alloc, args, cols, rows)?)),
+        LogicOp::Group(_)
+        | LogicOp::Top(_)
+        | LogicOp::Partial(_)
+        | LogicOp::Finish(_)
+        | LogicOp::LocalTop(_)
+        | LogicOp::LastTop(_) => step_bag(alloc, op, cols, rows),
+        _ => Ok(None),
+    }
+}
+
+// The same of a Group, a Top and the steps of either, which call no user operator.
+#[tactic(auto, using(crate::proofs::PlainLemmas::same_bag))]
+fn step_bag(
+    alloc: Global,
+    op: &LogicOp,
+    cols: ColSet,
+    rows: &[Row],
+) -> Result<Option<Vec<Row>>, AllocError>
+    ensures found { IfOk result (λ found. is_some found ≡ is_step op.now) }
+    ensures given { (ops : Operators) → IfOk result (λ found. IfSome found (λ given. GivesOne ops op.now cols rows.now given.items)) }
+{
+    match op {
         LogicOp::Group(args) => Ok(Some(grouped_rows(alloc, args, cols, rows)?)),
+        LogicOp::Top(args) => Ok(Some(first_rows(alloc, args, cols, rows)?)),
         // Each row is a part of its own, since a value has room for every sum of one value.
         LogicOp::Partial(args) => Ok(Some(partial_rows(alloc, args, cols, rows)?)),
         LogicOp::Finish(args) => Ok(Some(finished_rows(alloc, args, cols, rows)?)),
+        // The first rows are some of the rows.
+        LogicOp::LocalTop(args) => Ok(Some(first_rows(alloc, args, cols, rows)?)),
+        LogicOp::LastTop(args) => Ok(Some(first_rows(alloc, args, cols, rows)?)),
         _ => Ok(None),
     }
 }

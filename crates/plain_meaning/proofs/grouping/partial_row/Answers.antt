@@ -1,7 +1,4 @@
-use Rattle.std.proofs.Common.{arith}
-use Rattle.std.proofs.lemmas.Grind.{common_steps}
 use Rattle.plain_meaning.proofs.grouping.partial_row.Goals as goal
-use Rattle.plain_meaning.proofs.grouping.partial_row.Goals.{then-has+in_ok-value_at, else-has+in_ok-partial_at}
 
-pub loop-c-preserved : goal.loop-c-preserved
-loop-c-preserved c = elim c.if-has.branch [ then-has+in_ok-value_at w ↦ grind (arith, common_steps) | else-has+in_ok-partial_at w ↦ grind (arith, common_steps) ]
+pub returns : goal.returns
+returns c = rw (c.in_ok-k.ensures, c.as_slice.ensures.value, c.in_ok-key.ensures) at c.part_row.ensures

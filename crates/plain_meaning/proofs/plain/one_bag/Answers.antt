@@ -1,10 +1,5 @@
-use Rattle.plain_meaning.proofs.PlainLemmas.{single_parts, first_within}
+use Rattle.user_ops.specs.contracts.op_set.OpSetTells.TheImpl as impl
 use Rattle.plain_meaning.proofs.plain.one_bag.Goals as goal
 
-pub returns-in_ok-partial_rows-in-Partial-clause-given : goal.returns-in_ok-partial_rows-in-Partial-clause-given
-returns-in_ok-partial_rows-in-Partial-clause-given g c =
-    rw c.in-Partial.is (single_parts c.in-Partial.args c.args.cols c.args.rows.now c.in_ok-partial_rows-in-Partial.field-0.items c.in_ok-partial_rows-in-Partial.ensures)
-
-pub returns-in_ok-first_rows-in-LocalTop-clause-given : goal.returns-in_ok-first_rows-in-LocalTop-clause-given
-returns-in_ok-first_rows-in-LocalTop-clause-given g c =
-    rw c.in-LocalTop.is (first_within c.in-LocalTop.args c.args.cols c.args.rows.now c.in_ok-first_rows-in-LocalTop.field-0.items c.in_ok-first_rows-in-LocalTop.ensures)
+pub returns-in-Group-clause-given : goal.returns-in-Group-clause-given
+returns-in-Group-clause-given g c = c.step_bag.ensures.given ((impl.ghosts g.dyn-1 g.dyn-2 g.dyn-3 g.dyn-4).tells c.args.ops.now)
