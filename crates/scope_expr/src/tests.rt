@@ -7,243 +7,108 @@ use std::alloc::{AllocError, Global};
 use std::process::Abort;
 use std::test::Fail;
 
-// A value of a table.
+// A value as the tables write it: `_` is null, digits are a number, other text but the truth values is a string.
+fn value_of(alloc: Global, text: &str) -> Result<Value, AllocError> {
+    if let Ok(number) = text.parse::<i64>() {
+        return Ok(Value::Int(number));
+    }
+    match text {
+        "_" => Ok(Value::Null),
+        "false" => Ok(Value::Bool(false)),
+        "true" => Ok(Value::Bool(true)),
+        _ => Ok(Value::Bytes(Cell::from_slice(alloc, text.as_bytes())?)),
+    }
+}
+
+// What stands before an operand: a sign, or a literal and an operator.
 #[derive(Clone, Copy)]
-enum Worth {
-    Null,
-    Truth(bool),
-    Number(i64),
-    Text(&'static str),
+enum Front {
+    Neg,
+    Not,
+    Pair(&'static str, PairOp),
 }
 
-fn value_of(alloc: Global, worth: Worth) -> Result<Value, AllocError> {
-    Ok(match worth {
-        Worth::Null => Value::Null,
-        Worth::Truth(truth) => Value::Bool(truth),
-        Worth::Number(number) => Value::Int(number),
-        Worth::Text(text) => Value::Bytes(Cell::from_slice(alloc, text.as_bytes())?),
-    })
+// Of a row over the columns 2 and 5, column 5 with that before it.
+fn expr_of(alloc: Global, front: Front) -> Result<Expr, AllocError> {
+    let column = Boxed::new(alloc, Expr::Col(5, ColType::Long))?;
+    match front {
+        Front::Neg => Ok(Expr::Neg(column)),
+        Front::Not => Ok(Expr::Not(column)),
+        Front::Pair(a, op) => {
+            let a = Boxed::new(alloc, Expr::Literal(value_of(alloc, a)?))?;
+            Ok(Expr::Pair(op, a, column))
+        }
+    }
 }
 
-// The value of `a op b`, where a is a literal and b the column 5 of a row over the columns 2 and 5.
-fn value_of_pair(alloc: Global, op: PairOp, a: Worth, b: Worth) -> Result<Value, AllocError> {
-    let cols = ColSet::empty().with(5).with(2);
+// A row over these columns.
+fn row_of(alloc: Global, value: &str) -> Result<Row, AllocError> {
     let mut row = Row::new(alloc);
     row.push(Value::Bool(true))?;
-    row.push(value_of(alloc, b)?)?;
-    let a = Boxed::new(alloc, Expr::Literal(value_of(alloc, a)?))?;
-    let b = Boxed::new(alloc, Expr::Col(5, ColType::Long))?;
-    let copy = Expr::Pair(op, a, b).copy(alloc)?;
-    eval(&copy, cols, &row)
+    row.push(value_of(alloc, value)?)?;
+    Ok(row)
 }
 
-// A row of a table: what an operator gives of two values.
-#[derive(Clone, Copy)]
-struct Case(PairOp, Worth, Worth, Worth);
-
-fn check_pairs(rt: &impl Abort, alloc: Global, cases: &[Case]) -> Result<(), AllocError> {
-    for Case(op, a, b, want) in cases {
-        let got = value_of_pair(alloc, *op, *a, *b)?;
-        let want = value_of(alloc, *want)?;
-        assert!(rt; got == want, "{op:?}");
-    }
-    Ok(())
-}
-
-#[test]
-fn values_of_arithmetic(rt: HostRuntime) -> Result<(), Fail> {
-    let cases = [
-        Case(PairOp::Div, Worth::Number(7), Worth::Number(0), Worth::Null),
-        Case(
-            PairOp::Add,
-            Worth::Number(9223372036854775807),
-            Worth::Number(1),
-            Worth::Null,
-        ),
-        Case(
-            PairOp::Rem,
-            Worth::Number(-7),
-            Worth::Number(3),
-            Worth::Number(-1),
-        ),
-        Case(
-            PairOp::Div,
-            Worth::Number(-7),
-            Worth::Number(2),
-            Worth::Number(-3),
-        ),
-        Case(
-            PairOp::Mul,
-            Worth::Number(4294967296),
-            Worth::Number(2147483648),
-            Worth::Null,
-        ),
-        Case(
-            PairOp::Sub,
-            Worth::Number(2),
-            Worth::Number(5),
-            Worth::Number(-3),
-        ),
-        Case(PairOp::Sub, Worth::Number(1), Worth::Null, Worth::Null),
-    ];
-    check_pairs(&rt, rt.alloc(), &cases)?;
-    Ok(())
-}
-
-#[test]
-fn values_at_the_least_number(rt: HostRuntime) -> Result<(), Fail> {
-    let cases = [
-        Case(
-            PairOp::Div,
-            Worth::Number(-9223372036854775808),
-            Worth::Number(-1),
-            Worth::Null,
-        ),
-        Case(
-            PairOp::Rem,
-            Worth::Number(-9223372036854775808),
-            Worth::Number(-1),
-            Worth::Number(0),
-        ),
-        Case(
-            PairOp::Sub,
-            Worth::Number(-9223372036854775808),
-            Worth::Number(1),
-            Worth::Null,
-        ),
-        Case(PairOp::Rem, Worth::Number(7), Worth::Number(0), Worth::Null),
-    ];
-    check_pairs(&rt, rt.alloc(), &cases)?;
-    Ok(())
-}
-
-#[test]
-fn values_of_comparisons(rt: HostRuntime) -> Result<(), Fail> {
-    let cases = [
-        Case(PairOp::Eq, Worth::Null, Worth::Null, Worth::Truth(true)),
-        Case(PairOp::Ne, Worth::Null, Worth::Null, Worth::Truth(false)),
-        Case(
-            PairOp::Lt,
-            Worth::Null,
-            Worth::Truth(false),
-            Worth::Truth(true),
-        ),
-        Case(
-            PairOp::Lt,
-            Worth::Truth(false),
-            Worth::Truth(true),
-            Worth::Truth(true),
-        ),
-        Case(
-            PairOp::Gt,
-            Worth::Text("b"),
-            Worth::Text("ab"),
-            Worth::Truth(true),
-        ),
-        Case(
-            PairOp::Ge,
-            Worth::Text("a"),
-            Worth::Text("ab"),
-            Worth::Truth(false),
-        ),
-        Case(
-            PairOp::Le,
-            Worth::Null,
-            Worth::Number(-5),
-            Worth::Truth(true),
-        ),
-    ];
-    check_pairs(&rt, rt.alloc(), &cases)?;
-    Ok(())
-}
-
-#[test]
-fn values_with_null(rt: HostRuntime) -> Result<(), Fail> {
-    let cases = [
-        Case(PairOp::Add, Worth::Null, Worth::Number(1), Worth::Null),
-        Case(PairOp::Mul, Worth::Number(2), Worth::Null, Worth::Null),
-        Case(PairOp::Div, Worth::Null, Worth::Number(2), Worth::Null),
-        Case(PairOp::Rem, Worth::Number(7), Worth::Null, Worth::Null),
-        Case(
-            PairOp::Gt,
-            Worth::Number(-1),
-            Worth::Null,
-            Worth::Truth(true),
-        ),
-        Case(
-            PairOp::Ge,
-            Worth::Null,
-            Worth::Number(0),
-            Worth::Truth(false),
-        ),
-    ];
-    check_pairs(&rt, rt.alloc(), &cases)?;
-    Ok(())
-}
-
-#[test]
-fn values_of_links(rt: HostRuntime) -> Result<(), Fail> {
-    let cases = [
-        Case(
-            PairOp::Or,
-            Worth::Null,
-            Worth::Truth(true),
-            Worth::Truth(true),
-        ),
-        Case(
-            PairOp::Or,
-            Worth::Null,
-            Worth::Truth(false),
-            Worth::Truth(false),
-        ),
-        Case(
-            PairOp::And,
-            Worth::Truth(true),
-            Worth::Null,
-            Worth::Truth(false),
-        ),
-        Case(
-            PairOp::And,
-            Worth::Truth(true),
-            Worth::Truth(true),
-            Worth::Truth(true),
-        ),
-    ];
-    check_pairs(&rt, rt.alloc(), &cases)?;
-    Ok(())
-}
-
-fn check_signs(
+// The expression has this value, and holds where that is true; its copy does too.
+fn check_value(
     rt: &impl Abort,
     alloc: Global,
-    a: Worth,
-    opposite: Worth,
-    inverse: bool,
+    front: Front,
+    value: &str,
+    want: &str,
 ) -> Result<(), AllocError> {
-    let cols = ColSet::empty().with(0);
-    let mut row = Row::new(alloc);
-    row.push(value_of(alloc, a)?)?;
-    let neg = Expr::Neg(Boxed::new(alloc, Expr::Col(0, ColType::Long))?);
-    let got = eval(&neg, cols, &row)?;
-    let want = value_of(alloc, opposite)?;
-    assert!(rt; got == want);
-    let not = Expr::Not(Boxed::new(alloc, Expr::Col(0, ColType::Bool))?);
-    assert!(rt; holds(&not, cols, &row) == inverse);
+    let cols = ColSet::empty().with(5).with(2);
+    let row = row_of(alloc, value)?;
+    let want = value_of(alloc, want)?;
+    let e = expr_of(alloc, front)?.copy(alloc)?;
+    assert_eq!(rt; eval(&e, cols, &row)?, want, "at {value}");
+    assert_eq!(rt; holds(&e, cols, &row), want == Value::Bool(true));
     Ok(())
 }
 
+// What each gives: arithmetic, also at the least number and with null, comparisons, links and signs.
 #[test]
-fn values_of_signs(rt: HostRuntime) -> Result<(), Fail> {
-    check_signs(&rt, rt.alloc(), Worth::Null, Worth::Null, true)?;
-    check_signs(
-        &rt,
-        rt.alloc(),
-        Worth::Number(-9223372036854775808),
-        Worth::Null,
-        true,
-    )?;
-    check_signs(&rt, rt.alloc(), Worth::Number(5), Worth::Number(-5), true)?;
-    check_signs(&rt, rt.alloc(), Worth::Truth(true), Worth::Null, false)?;
+fn values_of_operators(rt: HostRuntime) -> Result<(), Fail> {
+    for (front, value, want) in [
+        (Front::Pair("7", PairOp::Div), "0", "_"),
+        (Front::Pair("9223372036854775807", PairOp::Add), "1", "_"),
+        (Front::Pair("-7", PairOp::Rem), "3", "-1"),
+        (Front::Pair("-7", PairOp::Div), "2", "-3"),
+        (Front::Pair("4294967296", PairOp::Mul), "2147483648", "_"),
+        (Front::Pair("2", PairOp::Sub), "5", "-3"),
+        (Front::Pair("1", PairOp::Sub), "_", "_"),
+        (Front::Pair("-9223372036854775808", PairOp::Div), "-1", "_"),
+        (Front::Pair("-9223372036854775808", PairOp::Rem), "-1", "0"),
+        (Front::Pair("-9223372036854775808", PairOp::Sub), "1", "_"),
+        (Front::Pair("7", PairOp::Rem), "0", "_"),
+        (Front::Pair("_", PairOp::Eq), "_", "true"),
+        (Front::Pair("_", PairOp::Ne), "_", "false"),
+        (Front::Pair("_", PairOp::Lt), "false", "true"),
+        (Front::Pair("false", PairOp::Lt), "true", "true"),
+        (Front::Pair("b", PairOp::Gt), "ab", "true"),
+        (Front::Pair("a", PairOp::Ge), "ab", "false"),
+        (Front::Pair("_", PairOp::Le), "-5", "true"),
+        (Front::Pair("_", PairOp::Add), "1", "_"),
+        (Front::Pair("2", PairOp::Mul), "_", "_"),
+        (Front::Pair("_", PairOp::Div), "2", "_"),
+        (Front::Pair("7", PairOp::Rem), "_", "_"),
+        (Front::Pair("-1", PairOp::Gt), "_", "true"),
+        (Front::Pair("_", PairOp::Ge), "0", "false"),
+        (Front::Pair("_", PairOp::Or), "true", "true"),
+        (Front::Pair("_", PairOp::Or), "false", "false"),
+        (Front::Pair("true", PairOp::And), "_", "false"),
+        (Front::Pair("true", PairOp::And), "true", "true"),
+        (Front::Neg, "_", "_"),
+        (Front::Neg, "-9223372036854775808", "_"),
+        (Front::Neg, "5", "-5"),
+        (Front::Neg, "true", "_"),
+        (Front::Not, "_", "true"),
+        (Front::Not, "-9223372036854775808", "true"),
+        (Front::Not, "5", "true"),
+        (Front::Not, "true", "false"),
+    ] {
+        check_value(&rt, rt.alloc(), front, value, want)?;
+    }
     Ok(())
 }
 
@@ -251,18 +116,23 @@ fn cell_of(alloc: Global, text: &str) -> Result<Cell, AllocError> {
     Cell::from_slice(alloc, text.as_bytes())
 }
 
-fn entry_of(
-    alloc: Global,
-    alias: Option<&str>,
-    name: &str,
-    id: u32,
-    kind: ColType,
-) -> Result<Entry, AllocError> {
-    let alias = match alias {
-        Some(alias) => Some(cell_of(alloc, alias)?),
-        None => None,
-    };
-    let name = cell_of(alloc, name)?;
+// The alias before the dot and the name behind it, or the name alone.
+fn reference(alloc: Global, text: &str) -> Result<RawRef, AllocError> {
+    match text.split_once('.') {
+        Some((alias, name)) => {
+            let alias = Some(cell_of(alloc, alias)?);
+            let name = cell_of(alloc, name)?;
+            Ok(RawRef { alias, name })
+        }
+        None => {
+            let name = cell_of(alloc, text)?;
+            Ok(RawRef { alias: None, name })
+        }
+    }
+}
+
+fn entry_of(alloc: Global, text: &str, id: u32, kind: ColType) -> Result<Entry, AllocError> {
+    let RawRef { alias, name } = reference(alloc, text)?;
     Ok(Entry {
         alias,
         name,
@@ -274,10 +144,14 @@ fn entry_of(
 // `s.n:int`, `s.t:string`, `u.n:long` and `f:bool`, and one aggregate, a long.
 fn scope_of(alloc: Global) -> Result<Scope, AllocError> {
     let mut entries = Items::new(alloc);
-    entries.push(entry_of(alloc, Some("s"), "n", 0, ColType::Int)?)?;
-    entries.push(entry_of(alloc, Some("s"), "t", 1, ColType::Text)?)?;
-    entries.push(entry_of(alloc, Some("u"), "n", 2, ColType::Long)?)?;
-    entries.push(entry_of(alloc, None, "f", 3, ColType::Bool)?)?;
+    for (text, id, kind) in [
+        ("s.n", 0, ColType::Int),
+        ("s.t", 1, ColType::Text),
+        ("u.n", 2, ColType::Long),
+        ("f", 3, ColType::Bool),
+    ] {
+        entries.push(entry_of(alloc, text, id, kind)?)?;
+    }
     let mut aggs = Items::new(alloc);
     aggs.push((9, ColType::Long))?;
     Ok(Scope { entries, aggs })
@@ -286,25 +160,38 @@ fn scope_of(alloc: Global) -> Result<Scope, AllocError> {
 // An operand of a table.
 #[derive(Clone, Copy)]
 enum Leaf {
-    Literal(Worth),
+    Literal(&'static str),
     Name(&'static str),
-    Of(&'static str, &'static str),
     Agg(u32),
 }
 
 fn leaf_of(alloc: Global, leaf: Leaf) -> Result<RawExpr, AllocError> {
     match leaf {
-        Leaf::Literal(worth) => Ok(RawExpr::Literal(value_of(alloc, worth)?)),
-        Leaf::Name(name) => {
-            let name = cell_of(alloc, name)?;
-            Ok(RawExpr::Ref(RawRef { alias: None, name }))
-        }
-        Leaf::Of(alias, name) => {
-            let alias = Some(cell_of(alloc, alias)?);
-            let name = cell_of(alloc, name)?;
-            Ok(RawExpr::Ref(RawRef { alias, name }))
-        }
+        Leaf::Literal(text) => Ok(RawExpr::Literal(value_of(alloc, text)?)),
+        Leaf::Name(text) => Ok(RawExpr::Ref(reference(alloc, text)?)),
         Leaf::Agg(number) => Ok(RawExpr::Agg(number)),
+    }
+}
+
+// What stands around an operand: nothing, a sign, or an operator and another operand.
+#[derive(Clone, Copy)]
+enum Around {
+    Nothing,
+    Neg,
+    Not,
+    Pair(PairOp, Leaf),
+}
+
+fn raw_of(alloc: Global, leaf: Leaf, around: Around) -> Result<RawExpr, AllocError> {
+    match around {
+        Around::Nothing => leaf_of(alloc, leaf),
+        Around::Neg => Ok(RawExpr::Neg(Boxed::new(alloc, leaf_of(alloc, leaf)?)?)),
+        Around::Not => Ok(RawExpr::Not(Boxed::new(alloc, leaf_of(alloc, leaf)?)?)),
+        Around::Pair(op, other) => {
+            let a = Boxed::new(alloc, leaf_of(alloc, leaf)?)?;
+            let b = Boxed::new(alloc, leaf_of(alloc, other)?)?;
+            Ok(RawExpr::Pair(op, a, b))
+        }
     }
 }
 
@@ -316,96 +203,91 @@ fn kind_of_raw(alloc: Global, raw: &RawExpr) -> Result<Result<ColType, TypeFault
     }
 }
 
-// A row of a table: the type of `a op b`.
-#[derive(Clone, Copy)]
-struct Typing(PairOp, Leaf, Leaf, Result<ColType, TypeFault>);
-
-fn check_types(rt: &impl Abort, alloc: Global, cases: &[Typing]) -> Result<(), AllocError> {
-    for Typing(op, a, b, want) in cases {
-        let a = Boxed::new(alloc, leaf_of(alloc, *a)?)?;
-        let b = Boxed::new(alloc, leaf_of(alloc, *b)?)?;
-        let got = kind_of_raw(alloc, &RawExpr::Pair(*op, a, b))?;
-        assert!(rt; got == *want, "{op:?}");
-    }
+fn check_type(
+    rt: &impl Abort,
+    alloc: Global,
+    leaf: Leaf,
+    around: Around,
+    want: Result<ColType, TypeFault>,
+) -> Result<(), AllocError> {
+    let raw = raw_of(alloc, leaf, around)?;
+    assert_eq!(rt; kind_of_raw(alloc, &raw)?, want);
     Ok(())
 }
 
+// The type of each, or its first fault.
 #[test]
 fn types_of_operators(rt: HostRuntime) -> Result<(), Fail> {
-    let null = Leaf::Literal(Worth::Null);
-    let text = Leaf::Literal(Worth::Text("x"));
-    let one = Leaf::Literal(Worth::Number(1));
-    let cases = [
-        Typing(
-            PairOp::Add,
-            Leaf::Of("s", "n"),
-            Leaf::Of("s", "n"),
+    let null = Leaf::Literal("_");
+    let text = Leaf::Literal("x");
+    let one = Leaf::Literal("1");
+    let small = Leaf::Name("s.n");
+    let truth = Leaf::Name("f");
+    for (leaf, around, want) in [
+        (small, Around::Pair(PairOp::Add, small), Ok(ColType::Long)),
+        (
+            null,
+            Around::Pair(PairOp::Mul, Leaf::Agg(0)),
             Ok(ColType::Long),
         ),
-        Typing(PairOp::Mul, null, Leaf::Agg(0), Ok(ColType::Long)),
-        Typing(PairOp::Add, one, Leaf::Name("f"), Err(TypeFault::Mismatch)),
-        Typing(PairOp::Eq, null, null, Ok(ColType::Bool)),
-        Typing(
-            PairOp::Lt,
-            Leaf::Of("s", "n"),
-            Leaf::Of("u", "n"),
+        (
+            one,
+            Around::Pair(PairOp::Add, truth),
+            Err(TypeFault::Mismatch),
+        ),
+        (null, Around::Pair(PairOp::Eq, null), Ok(ColType::Bool)),
+        (
+            small,
+            Around::Pair(PairOp::Lt, Leaf::Name("u.n")),
             Ok(ColType::Bool),
         ),
-        Typing(PairOp::Le, Leaf::Name("t"), one, Err(TypeFault::Mismatch)),
-        Typing(PairOp::And, Leaf::Name("f"), null, Ok(ColType::Bool)),
-        Typing(PairOp::Or, Leaf::Name("f"), one, Err(TypeFault::Mismatch)),
-    ];
-    check_types(&rt, rt.alloc(), &cases)?;
-    Ok(())
-}
-
-#[test]
-fn faults_in_their_order(rt: HostRuntime) -> Result<(), Fail> {
-    let text = Leaf::Literal(Worth::Text("x"));
-    let cases = [
-        Typing(PairOp::Add, text, Leaf::Name("t"), Err(TypeFault::Mismatch)),
-        Typing(
-            PairOp::Add,
+        (
+            Leaf::Name("t"),
+            Around::Pair(PairOp::Le, one),
+            Err(TypeFault::Mismatch),
+        ),
+        (truth, Around::Pair(PairOp::And, null), Ok(ColType::Bool)),
+        (
+            truth,
+            Around::Pair(PairOp::Or, one),
+            Err(TypeFault::Mismatch),
+        ),
+        (
             text,
-            Leaf::Name("n"),
+            Around::Pair(PairOp::Add, Leaf::Name("t")),
+            Err(TypeFault::Mismatch),
+        ),
+        (
+            text,
+            Around::Pair(PairOp::Add, Leaf::Name("n")),
             Err(TypeFault::Ambiguous),
         ),
-        Typing(
-            PairOp::Add,
+        (
             Leaf::Name("n"),
-            Leaf::Name("z"),
+            Around::Pair(PairOp::Add, Leaf::Name("z")),
             Err(TypeFault::Unknown),
         ),
-        Typing(
-            PairOp::Add,
+        (
             text,
-            Leaf::Of("u", "t"),
+            Around::Pair(PairOp::Add, Leaf::Name("u.t")),
             Err(TypeFault::Unknown),
         ),
-        Typing(
-            PairOp::Add,
+        (
             text,
-            Leaf::Of("s", "f"),
+            Around::Pair(PairOp::Add, Leaf::Name("s.f")),
             Err(TypeFault::Unknown),
         ),
-        Typing(PairOp::Add, text, Leaf::Agg(1), Err(TypeFault::Unknown)),
-    ];
-    check_types(&rt, rt.alloc(), &cases)?;
-    Ok(())
-}
-
-#[test]
-fn types_of_operands(rt: HostRuntime) -> Result<(), Fail> {
-    let alloc = rt.alloc();
-    let alone = kind_of_raw(alloc, &RawExpr::Literal(Value::Null))?;
-    assert!(rt; alone == Ok(ColType::Text));
-    let plain = kind_of_raw(alloc, &leaf_of(alloc, Leaf::Of("s", "n"))?)?;
-    assert!(rt; plain == Ok(ColType::Int));
-    let opposite = RawExpr::Neg(Boxed::new(alloc, leaf_of(alloc, Leaf::Of("s", "n"))?)?);
-    let opposite = kind_of_raw(alloc, &opposite)?;
-    assert!(rt; opposite == Ok(ColType::Long));
-    let inverse = RawExpr::Not(Boxed::new(alloc, leaf_of(alloc, Leaf::Of("s", "n"))?)?);
-    let inverse = kind_of_raw(alloc, &inverse)?;
-    assert!(rt; inverse == Err(TypeFault::Mismatch));
+        (
+            text,
+            Around::Pair(PairOp::Add, Leaf::Agg(1)),
+            Err(TypeFault::Unknown),
+        ),
+        (null, Around::Nothing, Ok(ColType::Text)),
+        (small, Around::Nothing, Ok(ColType::Int)),
+        (small, Around::Neg, Ok(ColType::Long)),
+        (small, Around::Not, Err(TypeFault::Mismatch)),
+    ] {
+        check_type(&rt, rt.alloc(), leaf, around, want)?;
+    }
     Ok(())
 }
