@@ -8,7 +8,7 @@ use sqlite_items::Boxed;
 use std::alloc::{AllocError, Global};
 
 /// An expression over the columns of a row, each column with its type.
-#[derive(Debug, Drop)]
+#[derive(Drop)]
 pub enum Expr {
     /// A number, a string, a truth value or null.
     Literal(Value),

@@ -1,7 +1,7 @@
 // The operators between two operands.
 
 /// An operator between two operands: of truth values, of comparison, of arithmetic.
-#[derive(Clone, Copy, Debug, PartialEq, Eq)]
+#[derive(Clone, Copy, PartialEq, Eq)]
 pub enum PairOp {
     Or,
     And,

@@ -4,14 +4,14 @@ use scope_value::{Cell, Value};
 use sqlite_items::Boxed;
 
 /// A column as it is written, `name` or `alias.name`.
-#[derive(Debug, Drop)]
+#[derive(Drop)]
 pub struct RawRef {
     pub alias: Option<Cell>,
     pub name: Cell,
 }
 
 /// An expression as it is written, without names resolved. Brackets leave no trace in it.
-#[derive(Debug, Drop)]
+#[derive(Drop)]
 pub enum RawExpr {
     /// A number, a string, TRUE, FALSE or NULL.
     Literal(Value),

@@ -5,7 +5,7 @@ use sqlite_items::Items;
 use thiserror::Error;
 
 /// A column in sight: the alias of its source, where it has one, its name, number and type.
-#[derive(Debug, Drop)]
+#[derive(Drop)]
 pub struct Entry {
     pub alias: Option<Cell>,
     pub name: Cell,
@@ -14,7 +14,7 @@ pub struct Entry {
 }
 
 /// The columns in sight, and the column and the type of each aggregate of the SELECT, by its number.
-#[derive(Debug, Drop)]
+#[derive(Drop)]
 pub struct Scope {
     pub entries: Items<Entry>,
     pub aggs: Items<(ColId, ColType)>,
