@@ -1,5 +1,4 @@
 pub mod Digits
 pub mod Fronts
 pub mod KnownTexts
-pub mod OneFieldFits
 pub mod Reading

@@ -2,7 +2,6 @@ pub mod Fields
 pub mod Fitting
 pub mod Numbers
 pub mod OnTexts
-pub mod OneField
 pub mod Records
 pub mod Rows
 pub mod Texts

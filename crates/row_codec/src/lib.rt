@@ -18,8 +18,3 @@ pub use field::{read_field, write_field};
 pub use number::number_under;
 pub use part::read_part;
 pub use writing::write_rows;
-
-#[cfg(test)]
-mod one_field;
-#[cfg(test)]
-mod tests;

@@ -1,4 +1,3 @@
-mod MarkingFits
 pub mod EndLemmas
 pub mod PipelineLemmas
 pub mod PlanLemmas

@@ -1,5 +1,4 @@
 pub mod Ends
-pub mod Marking
 pub mod Pipeline
 pub mod Plans
 pub mod Report

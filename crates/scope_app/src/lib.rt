@@ -2,16 +2,12 @@
 #![tactic(auto)]
 
 mod distinct;
-#[cfg(test)]
-mod marking;
 mod output;
 mod pipeline;
 mod plan;
 mod report;
 mod select;
 mod status;
-#[cfg(test)]
-mod tests;
 mod top;
 
 pub use report::{status_line, status_number};

@@ -25,6 +25,3 @@ pub use lexing::lex;
 pub use token::Token;
 pub use value::{number_value, string_value, token_text};
 pub use word::is_word;
-
-#[cfg(test)]
-mod tests;

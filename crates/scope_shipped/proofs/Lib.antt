@@ -1,7 +1,6 @@
 pub mod Counts
 pub mod Differences
 pub mod Exits
-pub mod FirstIsNullFits
 pub mod Fit
 pub mod FitRules
 pub mod SameTypesLemmas

@@ -1,5 +1,4 @@
 pub mod Arguments
-pub mod FirstIsNull
 pub mod InnerPairs
 pub mod LogExtractor
 pub mod MultiSetDifference

@@ -4,8 +4,6 @@
 //! rows of a group, and [`MultiSetDifference`] and [`InnerPairs`] combine two groups.
 #![tactic(auto)]
 
-#[cfg(test)]
-mod first_is_null;
 mod inner_pairs;
 mod log_extractor;
 mod multi_set_difference;
@@ -13,8 +11,6 @@ mod refusals;
 mod row_counts;
 mod same_types;
 mod split_words;
-#[cfg(test)]
-mod tests;
 mod text_extractor;
 mod top_queries;
 

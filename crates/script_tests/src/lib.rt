@@ -2,4 +2,22 @@
 #![tactic(auto)]
 
 #[cfg(test)]
+mod first_is_null;
+#[cfg(test)]
 mod grammar;
+#[cfg(test)]
+mod marking;
+#[cfg(test)]
+mod one_field;
+#[cfg(test)]
+mod operators;
+#[cfg(test)]
+mod records;
+#[cfg(test)]
+mod shipped;
+#[cfg(test)]
+mod silent;
+#[cfg(test)]
+mod tokens;
+#[cfg(test)]
+mod top;

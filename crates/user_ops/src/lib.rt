@@ -11,8 +11,6 @@ mod extractor;
 mod op_set;
 mod processor;
 mod reducer;
-#[cfg(test)]
-mod tests;
 
 pub use add_fault::AddFault;
 pub use combiner::Combiner;

@@ -1,12 +1,13 @@
 // The worked rows of scripts that run, over a store in memory.
-use super::*;
-use crate::marking::{Marking, Refusing};
+use crate::marking::Marking;
+use crate::silent::Silent;
+use scope_app::{scope_main, status_line, status_number};
 use scope_outside::MemStore;
 use scope_shipped::TextExtractor;
 use scope_value::Cell;
 use std::alloc::{AllocError, Global};
 use std::test::Fail;
-use user_ops::OpSet;
+use user_ops::{Extractor, OpSet};
 
 const COPY: &[u8] = b"e = EXTRACT a:int, b FROM \"in\" USING TextExtractor; OUTPUT e TO \"out\";";
 
@@ -18,13 +19,12 @@ const BELOW: &[u8] =
 
 const MARKED: &[u8] = b"e = EXTRACT m FROM \"in\" USING Marking; OUTPUT e TO \"out\";";
 
-const REFUSED: &[u8] = b"e = EXTRACT m FROM \"in\" USING Refusing; OUTPUT e TO \"out\";";
+const REFUSED: &[u8] = b"e = EXTRACT m FROM \"in\" USING Silent; OUTPUT e TO \"out\";";
 
-// What a run is given, and what comes of it. The script that is asked for may be another than `s`, which is there. A call that fails is
-// counted from 1, and 0 is none.
+// What a run is given, and what comes of it. The script is there as `s`. A call that fails is counted from 1, and 0 is none.
 #[derive(Clone, Copy)]
 struct Case<'a> {
-    asked: &'a str,
+    words: &'a [&'a str],
     script: &'a [u8],
     input: Option<&'a [u8]>,
     failing_read: u64,
@@ -55,7 +55,7 @@ fn store_of(alloc: Global, case: &Case<'_>) -> Result<MemStore, AllocError> {
 
 fn done<'a>(script: &'a [u8], input: &'a [u8], output: &'a [u8]) -> Case<'a> {
     Case {
-        asked: "s",
+        words: &["scope", "run", "s"],
         script,
         input: Some(input),
         failing_read: 0,
@@ -68,7 +68,7 @@ fn done<'a>(script: &'a [u8], input: &'a [u8], output: &'a [u8]) -> Case<'a> {
 
 fn stops<'a>(script: &'a [u8], input: &'a [u8], number: u32, line: &'a [u8]) -> Case<'a> {
     Case {
-        asked: "s",
+        words: &["scope", "run", "s"],
         script,
         input: Some(input),
         failing_read: 0,
@@ -79,13 +79,20 @@ fn stops<'a>(script: &'a [u8], input: &'a [u8], number: u32, line: &'a [u8]) -> 
     }
 }
 
+fn not_built<'a>(words: &'a [&'a str]) -> Case<'a> {
+    Case {
+        words,
+        ..stops(COPY, b"1,x\n", 20, b"scope: not built")
+    }
+}
+
 fn ends_as(
     rt: &impl std::process::Abort,
     alloc: Global,
     ops: &OpSet,
     case: &Case<'_>,
 ) -> Result<(), AllocError> {
-    let words = words_of(alloc, &["scope", "run", case.asked])?;
+    let words = words_of(alloc, case.words)?;
     let mut store = store_of(alloc, case)?;
     let status = scope_main(alloc, words.as_slice(), &mut store, ops);
     let mut line = Vec::new(alloc);
@@ -96,31 +103,34 @@ fn ends_as(
     Ok(())
 }
 
+fn takes(
+    alloc: Global,
+    ops: &mut OpSet,
+    name: &[u8],
+    op: Box<dyn Extractor>,
+) -> Result<bool, AllocError> {
+    Ok(
+        ops.add_extractor(Cell::from_slice(alloc, name)?, op)
+            .is_ok(),
+    )
+}
+
 #[test]
 fn scripts_end_as_they_should(rt: HostRuntime) -> Result<(), Fail> {
     let alloc = rt.alloc();
     let mut ops = OpSet::new(alloc);
-    let text = Cell::from_slice(alloc, b"TextExtractor")?;
-    let marking = Cell::from_slice(alloc, b"Marking")?;
-    let refusing = Cell::from_slice(alloc, b"Refusing")?;
-    assert!(rt;
-        ops.add_extractor(text, Box::new(alloc, TextExtractor)?)
-            .is_ok()
-    );
-    assert!(rt;
-        ops.add_extractor(marking, Box::new(alloc, Marking)?)
-            .is_ok()
-    );
-    assert!(rt;
-        ops.add_extractor(refusing, Box::new(alloc, Refusing)?)
-            .is_ok()
-    );
+    let text = Box::new(alloc, TextExtractor)?;
+    assert!(rt; takes(alloc, &mut ops, b"TextExtractor", text)?);
+    let marking = Box::new(alloc, Marking)?;
+    assert!(rt; takes(alloc, &mut ops, b"Marking", marking)?);
+    let silent = Box::new(alloc, Silent { delimiter: b',' })?;
+    assert!(rt; takes(alloc, &mut ops, b"Silent", silent)?);
     let missing = Case {
         input: None,
         ..stops(COPY, b"", 4, b"scope: no stream in")
     };
     let no_script = Case {
-        asked: "t",
+        words: &["scope", "run", "t"],
         ..stops(COPY, b"1,x\n", 4, b"scope: no stream t")
     };
     let unread_script = Case {
@@ -172,28 +182,14 @@ fn scripts_end_as_they_should(rt: HostRuntime) -> Result<(), Fail> {
             20,
             b"scope: not built",
         ),
+        not_built(&[]),
+        not_built(&["scope", "run"]),
+        not_built(&["scope", "plan", "s"]),
+        not_built(&["scope", "run", "-s"]),
+        not_built(&["scope", "run", "s", "t"]),
     ];
     for case in &cases {
         ends_as(&rt, alloc, &ops, case)?;
-    }
-    Ok(())
-}
-
-#[test]
-fn other_words_are_not_built(rt: HostRuntime) -> Result<(), Fail> {
-    let alloc = rt.alloc();
-    let ops = OpSet::new(alloc);
-    let mut store = store_of(alloc, &done(COPY, b"1,x\n", b""))?;
-    for texts in [
-        &[] as &[&str],
-        &["scope", "run"],
-        &["scope", "plan", "s"],
-        &["scope", "run", "-s"],
-        &["scope", "run", "s", "t"],
-    ] {
-        let words = words_of(alloc, texts)?;
-        let status = scope_main(alloc, words.as_slice(), &mut store, &ops);
-        assert_eq!(rt; status_number(&status), 20);
     }
     Ok(())
 }

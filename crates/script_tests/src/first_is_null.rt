@@ -1,8 +1,7 @@
 // An operator that is not shipped, as docs/OPERATORS.md builds it.
 ghost use Rattle.std.specs.Prelude.{◌≡◌};
-ghost use Rattle.scope_shipped.specs.FirstIsNull.{first_is_null, is_one_truth, begins_with_null};
+ghost use Rattle.script_tests.specs.FirstIsNull.{first_is_null, is_one_truth, begins_with_null};
 
-use crate::same_types::is_same_type;
 use scope_value::{Cell, ColType, Column, Row, Schema, Value};
 use std::alloc::{AllocError, Global};
 use user_ops::Processor;
@@ -16,7 +15,7 @@ fn has_one_truth(columns: &[Column]) -> bool
     ensures { result ≡ is_one_truth columns.now }
 {
     match columns {
-        [only] => is_same_type(only.kind, ColType::Bool),
+        [only] => only.kind == ColType::Bool,
         _ => false,
     }
 }

@@ -1,10 +1,7 @@
 //! Texts and their tokens, worked out by hand from the grammar.
 
-use crate::kind::TokenKind;
-use crate::lexing::{MAX_SCRIPT, lex};
-use crate::token::Token;
-use crate::value::{number_value, string_value, token_text};
-use crate::word::is_word;
+use scope_lexer::lexing::MAX_SCRIPT;
+use scope_lexer::{Token, TokenKind, is_word, lex, number_value, string_value, token_text};
 use std::alloc::{AllocError, Global};
 use std::test::Fail;
 
@@ -34,7 +31,9 @@ fn outline(alloc: Global, text: &str) -> Result<String, AllocError> {
 }
 
 #[test]
-fn tokens_are_cut(rt: HostRuntime) -> Result<(), Fail> {
+fn texts_are_cut_or_have_a_fault(rt: HostRuntime) -> Result<(), Fail> {
+    let longest = " ".repeat(rt.alloc(), MAX_SCRIPT)?;
+    let too_long = "#".repeat(rt.alloc(), MAX_SCRIPT + 1)?;
     let rows = [
         ("", ""),
         (" \t\r\n", ""),
@@ -66,17 +65,6 @@ fn tokens_are_cut(rt: HostRuntime) -> Result<(), Fail> {
         ("\"é//\u{1}\" \"\"", "t0-7 t8-10 "),
         (r#""a\\\"\n\t""#, "t0-11 "),
         (r#""\\""a""#, "t0-4 t4-7 "),
-    ];
-    for (text, want) in rows {
-        let is = outline(rt.alloc(), text)?;
-        assert_eq!(rt; is.as_str(), want);
-    }
-    Ok(())
-}
-
-#[test]
-fn faults_have_their_place(rt: HostRuntime) -> Result<(), Fail> {
-    let rows = [
         ("12ab", "fault 0"),
         ("12_", "fault 0"),
         ("5é", "fault 1"),
@@ -102,22 +90,13 @@ fn faults_have_their_place(rt: HostRuntime) -> Result<(), Fail> {
         ("a\u{feff}", "fault 1"),
         ("\u{feff}\u{feff}", "fault 3"),
         ("\u{feff}a ?", "fault 5"),
+        (longest.as_str(), ""),
+        (too_long.as_str(), "fault 1048576"),
     ];
     for (text, want) in rows {
         let is = outline(rt.alloc(), text)?;
         assert_eq!(rt; is.as_str(), want);
     }
-    Ok(())
-}
-
-#[test]
-fn the_limit_comes_first(rt: HostRuntime) -> Result<(), Fail> {
-    let longest = " ".repeat(rt.alloc(), MAX_SCRIPT)?;
-    let is = outline(rt.alloc(), longest.as_str())?;
-    assert_eq!(rt; is.as_str(), "");
-    let too_long = "#".repeat(rt.alloc(), MAX_SCRIPT + 1)?;
-    let is = outline(rt.alloc(), too_long.as_str())?;
-    assert_eq!(rt; is.as_str(), "fault 1048576");
     Ok(())
 }
 

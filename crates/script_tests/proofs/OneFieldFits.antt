@@ -5,7 +5,7 @@ use Rattle.scope_value.specs.declared.schema.Column.{Column}
 use Rattle.scope_value.specs.declared.value.Value.{Value}
 use Rattle.scope_value.specs.Fits.{Fits}
 use Rattle.user_ops.specs.Extracts.{ReadsFitting, RowOfOutput}
-use Rattle.row_codec.specs.OneField.{one_field, one_value, only_value}
+use Rattle.script_tests.specs.OneField.{one_field, one_value, only_value}
 use Rattle.row_codec.specs.Records.{Record}
 use Rattle.row_codec.specs.Fitting.{field_fits}
 

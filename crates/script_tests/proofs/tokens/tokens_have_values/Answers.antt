@@ -1,6 +1,6 @@
 use Rattle.std.proofs.Common.{refl}
 use Rattle.scope_lexer.specs.Begins.{begins}
-use Rattle.scope_lexer.proofs.tests.tokens_have_values.Goals as goal
+use Rattle.script_tests.proofs.tokens.tokens_have_values.Goals as goal
 
 pub number_value-requires : goal.number_value-requires
 unfolding begins

@@ -1,6 +1,6 @@
 // That the calls answer with ample memory, on worked texts and fields.
 use crate::one_field::OneField;
-use crate::{RowFault, read_field, read_part, write_field, write_rows};
+use row_codec::{RowFault, read_field, read_part, write_field, write_rows};
 use scope_value::{Cell, ColType, Column, Schema, Value};
 use std::alloc::{AllocError, Global};
 use std::test::Fail;
@@ -70,7 +70,7 @@ fn answers_as_written(alloc: Global, case: &Case) -> Result<bool, AllocError> {
 }
 
 #[test]
-fn parts_of_records(rt: HostRuntime) -> Result<(), Fail> {
+fn parts_are_read_and_written(rt: HostRuntime) -> Result<(), Fail> {
     let cases = [
         reads(TEXT, b"x\n\n\ny\n", b"x\ny\n"),
         reads(TEXT, b"", b""),
@@ -83,16 +83,6 @@ fn parts_of_records(rt: HostRuntime) -> Result<(), Fail> {
             b"\xEF\xBB\xBF7\n\"a,\"\"b\"\"\n\"\r\n\"\\N\"\n\xFF",
             b"7\n\"a,\"\"b\"\"\n\"\n\\N\n\xFF\n",
         ),
-    ];
-    for case in &cases {
-        assert!(rt; answers_as_written(rt.alloc(), case)?);
-    }
-    Ok(())
-}
-
-#[test]
-fn fields_by_type(rt: HostRuntime) -> Result<(), Fail> {
-    let cases = [
         reads(
             INT,
             b"+7\n-0\n007\n2147483647\n-2147483648\n\\N\n\"\"\n",
@@ -125,14 +115,28 @@ fn fields_by_type(rt: HostRuntime) -> Result<(), Fail> {
     Ok(())
 }
 
+fn is_empty_text(alloc: Global, field: &[u8]) -> Result<bool, AllocError> {
+    let value = read_field(alloc, TEXT, field)?;
+    Ok(matches!(&value, Some(Value::Bytes(bytes)) if bytes.is_empty()))
+}
+
+fn is_null(alloc: Global, field: &[u8]) -> Result<bool, AllocError> {
+    let value = read_field(alloc, TEXT, field)?;
+    Ok(matches!(&value, Some(Value::Null)))
+}
+
+fn written_after(alloc: Global, before: &[u8], value: &Value) -> Result<Vec<u8>, AllocError> {
+    let mut out = Vec::from_slice(alloc, before)?;
+    write_field(value, &mut out)?;
+    Ok(out)
+}
+
 #[test]
 fn one_field(rt: HostRuntime) -> Result<(), Fail> {
-    let empty = read_field(rt.alloc(), TEXT, b"".as_slice())?;
-    assert!(rt; matches!(&empty, Some(Value::Bytes(bytes)) if bytes.is_empty()));
-    let null = read_field(rt.alloc(), TEXT, b"\\N".as_slice())?;
-    assert!(rt; matches!(&null, Some(Value::Null)));
-    let mut out = Vec::from_slice(rt.alloc(), b"sum ".as_slice())?;
-    write_field(&Value::Wide(-170), &mut out)?;
-    assert_eq!(rt; out.as_slice(), b"sum -170".as_slice());
+    let alloc = rt.alloc();
+    assert!(rt; is_empty_text(alloc, b"")?);
+    assert!(rt; is_null(alloc, b"\\N")?);
+    let sum = written_after(alloc, b"sum ", &Value::Wide(-170))?;
+    assert_eq!(rt; sum.as_slice(), b"sum -170".as_slice());
     Ok(())
 }

@@ -1,4 +1,4 @@
--- The rows of the tests' extractors fit.
+-- The rows of the marking extractor fit.
 use Rattle.std.proofs.Common.{◌≡◌, true, List, [], ◌∷◌, ℕ, Some, codes}
 use Rattle.scope_value.specs.declared.schema.ColType.{ColType}
 use Rattle.scope_value.specs.declared.schema.ColType.TheVariants.{Int, Long, Text, Bool as Truth}
@@ -6,7 +6,7 @@ use Rattle.scope_value.specs.declared.schema.Column.{Column}
 use Rattle.scope_value.specs.declared.value.Value.TheVariants.{Bytes}
 use Rattle.scope_value.specs.Fits.{Fits, RowFits}
 use Rattle.user_ops.specs.Extracts.{ReadsFitting}
-use Rattle.scope_app.specs.Marking.{marking, refusing, is_text, is_one_text}
+use Rattle.script_tests.specs.Marking.{marking, is_text, is_one_text}
 
 text_fits : (k : ColType) → is_text k ≡ true → Fits k (Bytes (codes "seen"))
 text_fits Int h = absurd (cc)
@@ -21,6 +21,3 @@ row_fits (c ∷ d ∷ more) h = absurd (cc)
 
 pub marking_fits : (args : List (List ℕ)) (output : List Column) (fields : List (List ℕ)) → ReadsFitting marking args output fields
 marking_fits args output fields = record { fit = row_fits output }
-
-pub refusing_fits : (args : List (List ℕ)) (output : List Column) (fields : List (List ℕ)) → ReadsFitting refusing args output fields
-refusing_fits args output fields = record { fit = λ h. tt }

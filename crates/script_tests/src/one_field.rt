@@ -1,14 +1,14 @@
 // An extractor for the tests: the smallest one that reads a field by its column's type.
 ghost use Rattle.std.specs.Prelude.{◌≡◌, IfOk};
-ghost use Rattle.row_codec.specs.OneField.{one_field, one_value, only_value};
+ghost use Rattle.script_tests.specs.OneField.{one_field, one_value, only_value};
 
-use crate::field::read_field;
+use row_codec::read_field;
 use scope_value::{Cell, ColType, Column, Schema, Value};
 use std::alloc::{AllocError, Global};
 use user_ops::Extractor;
 
 /// Reads records of one field in an output of one column, and refuses all others.
-#[derive(Debug, Clone, Copy)]
+#[derive(Clone, Copy)]
 pub struct OneField {
     pub delimiter: u8,
 }

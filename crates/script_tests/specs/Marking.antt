@@ -1,4 +1,4 @@
--- What the two extractors of the tests take and give.
+-- What the marking extractor of the tests takes and gives.
 use Rattle.std.specs.Prelude.{ℕ, Bool, true, false, List, [], ◌∷◌, Some, None, codes}
 use Rattle.scope_value.specs.declared.schema.ColType.{ColType}
 use Rattle.scope_value.specs.declared.schema.ColType.TheVariants.{Text}
@@ -20,15 +20,6 @@ abbrev pub marking : ToldExtractor
 marking = record {
   takes = λ output args. is_one_text output;
   extracts = λ args output fields. Some (Bytes (codes "seen") ∷ []);
-  fixed_columns = None;
-  delimits = λ args. 44;
-}
-
--- any output, and no record
-abbrev pub refusing : ToldExtractor
-refusing = record {
-  takes = λ output args. true;
-  extracts = λ args output fields. None;
   fixed_columns = None;
   delimits = λ args. 44;
 }

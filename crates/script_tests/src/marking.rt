@@ -1,18 +1,14 @@
-// Two extractors of the tests, which aren't shipped.
+// An extractor of the tests, which isn't shipped.
 ghost use Rattle.std.specs.Prelude.{◌≡◌};
-ghost use Rattle.scope_app.specs.Marking.{marking, refusing, is_one_text as spec_is_one_text};
+ghost use Rattle.script_tests.specs.Marking.{marking, is_one_text as spec_is_one_text};
 
 use scope_value::{Cell, ColType, Column, Schema, Value};
 use std::alloc::{AllocError, Global};
 use user_ops::Extractor;
 
 /// Gives the string `seen` for each record.
-#[derive(Debug, Clone, Copy)]
+#[derive(Clone, Copy)]
 pub struct Marking;
-
-/// Refuses every record.
-#[derive(Debug, Clone, Copy)]
-pub struct Refusing;
 
 fn is_one_text(columns: &[Column]) -> bool
     ensures { result ≡ spec_is_one_text columns.now }
@@ -49,33 +45,5 @@ impl Extractor for Marking {
     ) -> Result<bool, AllocError> {
         out.push(Value::Bytes(Cell::from_slice(alloc, b"seen")?))?;
         Ok(true)
-    }
-}
-
-impl Extractor for Refusing {
-    ghost told_extractor = { λ _. refusing };
-
-    fn fixed(&self, _alloc: Global, _out: &mut Vec<Column>) -> Result<bool, AllocError> {
-        Ok(false)
-    }
-
-    fn accepts(&self, _output: &Schema, _args: &[Cell]) -> bool {
-        true
-    }
-
-    fn delimiter(&self, _args: &[Cell]) -> u8 {
-        b','
-    }
-
-    #[tactic(auto, using(crate::proofs::MarkingFits::refusing_fits))]
-    fn extract(
-        &self,
-        _alloc: Global,
-        _args: &[Cell],
-        _output: &Schema,
-        _fields: &[Cell],
-        _out: &mut Vec<Value>,
-    ) -> Result<bool, AllocError> {
-        Ok(false)
     }
 }

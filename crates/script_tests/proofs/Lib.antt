@@ -1,0 +1,4 @@
+pub mod FirstIsNullFits
+pub mod MarkingFits
+pub mod NoRows
+pub mod OneFieldFits

@@ -1,0 +1,3 @@
+pub mod FirstIsNull
+pub mod Marking
+pub mod OneField

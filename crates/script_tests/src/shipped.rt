@@ -1,0 +1,322 @@
+// Worked rows of each shipped operator and of one that isn't, and operators in a set.
+use crate::first_is_null::FirstIsNull;
+use row_codec::{read_part, write_rows};
+use scope_shipped::{
+    InnerPairs, LogExtractor, MultiSetDifference, SplitWords, TextExtractor, TopQueries,
+};
+use scope_value::{Cell, ColType, Column, Row, Schema, Value};
+use std::alloc::{AllocError, Global};
+use std::test::Fail;
+use user_ops::{AddFault, Combiner, Extractor, OpSet, Processor, Reducer};
+
+// A column of a schema.
+#[derive(Clone, Copy)]
+struct Named<'a> {
+    name: &'a [u8],
+    kind: ColType,
+}
+
+const WORD: Named<'static> = Named {
+    name: b"word",
+    kind: ColType::Text,
+};
+
+const TIMES: Named<'static> = Named {
+    name: b"times",
+    kind: ColType::Int,
+};
+
+const FLAG: Named<'static> = Named {
+    name: b"flag",
+    kind: ColType::Bool,
+};
+
+const USER: Named<'static> = Named {
+    name: b"user",
+    kind: ColType::Text,
+};
+
+const CLICKS: Named<'static> = Named {
+    name: b"clicks",
+    kind: ColType::Int,
+};
+
+fn schema(alloc: Global, columns: &[Named]) -> Result<Schema, AllocError> {
+    let mut schema = Schema::new(alloc);
+    for column in columns {
+        let name = Cell::from_slice(alloc, column.name)?;
+        schema.push(Column {
+            name,
+            kind: column.kind,
+        })?;
+    }
+    Ok(schema)
+}
+
+fn cells(alloc: Global, texts: &[&[u8]]) -> Result<Vec<Cell>, AllocError> {
+    let mut cells = Vec::new(alloc);
+    for text in texts {
+        cells.push(Cell::from_slice(alloc, text)?)?;
+    }
+    Ok(cells)
+}
+
+// Rows of a word and its times, read from text.
+fn rows(alloc: Global, text: &[u8]) -> Result<Vec<Row>, AllocError> {
+    match read_part(
+        alloc,
+        text,
+        &TextExtractor,
+        &[],
+        &schema(alloc, &[WORD, TIMES])?,
+    )? {
+        Ok(rows) => Ok(rows),
+        Err(_) => Ok(Vec::new(alloc)),
+    }
+}
+
+fn written(alloc: Global, rows: &[Row]) -> Result<Vec<u8>, AllocError> {
+    let mut text = Vec::new(alloc);
+    write_rows(alloc, rows, b',', &mut text)?;
+    Ok(text)
+}
+
+// What an operator is given.
+#[derive(Clone, Copy)]
+enum Call<'a> {
+    // Two groups of words and their times.
+    Difference(&'a [u8], &'a [u8]),
+    Pairs(&'a [u8], &'a [u8]),
+    // How many rows of a group of three.
+    Top(&'a [u8]),
+    // The first value of a row, null where there is none.
+    Split(Option<&'a [u8]>),
+    IsNull(Option<&'a [u8]>),
+    // The output columns, and the fields of a record.
+    Log(&'a [Named<'a>], &'a [&'a [u8]]),
+    Text(&'a [Named<'a>], &'a [&'a [u8]]),
+}
+
+// The rows that are given; none where a record is refused, and one of the values that a refusal left behind.
+fn given(alloc: Global, call: Call) -> Result<Vec<Row>, AllocError> {
+    match call {
+        Call::Difference(left, right) => combined(alloc, &MultiSetDifference, left, right),
+        Call::Pairs(left, right) => combined(alloc, &InnerPairs, left, right),
+        Call::Top(count) => cut(alloc, count),
+        Call::Split(value) => processed(alloc, &SplitWords, value),
+        Call::IsNull(value) => processed(alloc, &FirstIsNull, value),
+        Call::Log(columns, fields) => extracted(alloc, &LogExtractor, columns, fields),
+        Call::Text(columns, fields) => extracted(alloc, &TextExtractor, columns, fields),
+    }
+}
+
+fn combined(
+    alloc: Global,
+    op: &dyn Combiner,
+    left: &[u8],
+    right: &[u8],
+) -> Result<Vec<Row>, AllocError> {
+    let left = rows(alloc, left)?;
+    let right = rows(alloc, right)?;
+    let mut out = Vec::new(alloc);
+    op.combine(alloc, &[], left.as_slice(), right.as_slice(), &mut out)?;
+    Ok(out)
+}
+
+fn cut(alloc: Global, count: &[u8]) -> Result<Vec<Row>, AllocError> {
+    let args = cells(alloc, &[count])?;
+    let group = rows(alloc, b"a,1\nb,2\nc,3\n")?;
+    let mut out = Vec::new(alloc);
+    TopQueries.reduce(alloc, args.as_slice(), group.as_slice(), &mut out)?;
+    Ok(out)
+}
+
+fn processed(
+    alloc: Global,
+    op: &dyn Processor,
+    value: Option<&[u8]>,
+) -> Result<Vec<Row>, AllocError> {
+    let mut row = Row::new(alloc);
+    row.push(match value {
+        None => Value::Null,
+        Some(bytes) => Value::Bytes(Cell::from_slice(alloc, bytes)?),
+    })?;
+    let mut out = Vec::new(alloc);
+    op.process(alloc, &[], &row, &mut out)?;
+    Ok(out)
+}
+
+fn extracted(
+    alloc: Global,
+    op: &dyn Extractor,
+    columns: &[Named],
+    fields: &[&[u8]],
+) -> Result<Vec<Row>, AllocError> {
+    let columns = schema(alloc, columns)?;
+    let fields = cells(alloc, fields)?;
+    let mut values = Vec::new(alloc);
+    let mut out = Vec::new(alloc);
+    if op.extract(alloc, &[], &columns, fields.as_slice(), &mut values)? || !values.is_empty() {
+        out.push(Row::from_vec(values))?;
+    }
+    Ok(out)
+}
+
+// The text of the rows that are given: empty where there are none.
+fn answers(alloc: Global, call: Call, want: &[u8]) -> Result<bool, AllocError> {
+    let rows = given(alloc, call)?;
+    Ok(written(alloc, rows.as_slice())?.as_slice() == want)
+}
+
+#[test]
+fn operators_give_worked_rows(rt: HostRuntime) -> Result<(), Fail> {
+    let swapped: &[Named] = &[CLICKS, USER];
+    let user: &[Named] = &[USER];
+    let counted: &[Named] = &[WORD, TIMES];
+    let cases = [
+        (
+            Call::Difference(b"a,1\na,1\na,1\n", b"a,1\n"),
+            b"a,1\na,1\n".as_slice(),
+        ),
+        (
+            Call::Difference(b"a,1\nb,2\na,1\n", b"a,1\n"),
+            b"b,2\na,1\n",
+        ),
+        (
+            Call::Difference(b"a,1\nb,2\n", b"b,2\nb,2\nc,3\n"),
+            b"a,1\n",
+        ),
+        (Call::Difference(b"a,\n", b"a,\n"), b""),
+        (Call::Difference(b"", b"a,1\n"), b""),
+        (
+            Call::Pairs(b"a,1\nb,2\n", b"c,3\nd,4\n"),
+            b"a,1,c,3\na,1,d,4\nb,2,c,3\nb,2,d,4\n",
+        ),
+        (Call::Pairs(b"a,1\n", b""), b""),
+        (Call::Top(b"0"), b""),
+        (Call::Top(b"002"), b"a,1\nb,2\n"),
+        (Call::Top(b"1000000000"), b"a,1\nb,2\nc,3\n"),
+        (Call::Split(Some(b" a  b ")), b"a\nb\n"),
+        (Call::Split(Some(b"a\tb  ")), b"a\tb\n"),
+        (Call::Split(None), b""),
+        (Call::IsNull(Some(b"a")), b"false\n"),
+        (Call::IsNull(None), b"true\n"),
+        (Call::Log(swapped, &[b"u", b"q", b"7"]), b"7,u\n"),
+        (Call::Log(user, &[b"u", b"q", b"many"]), b"u\n"),
+        (Call::Log(swapped, &[b"u", b"q", b"many"]), b""),
+        (Call::Log(user, &[b"u", b"q"]), b""),
+        (Call::Log(user, &[b"u", b"q", b"1", b"2"]), b""),
+        (Call::Text(counted, &[b"a", b"1"]), b"a,1\n"),
+        (Call::Text(counted, &[b"a", b"one"]), b""),
+    ];
+    for (call, want) in cases {
+        assert!(rt; answers(rt.alloc(), call, want)?);
+    }
+    Ok(())
+}
+
+fn takes_count(alloc: Global, count: &[u8]) -> Result<bool, AllocError> {
+    let schema = schema(alloc, &[WORD])?;
+    Ok(TopQueries.accepts(&schema, &schema, cells(alloc, &[count])?.as_slice()))
+}
+
+fn takes_delimiter(alloc: Global, byte: &[u8]) -> Result<Option<u8>, AllocError> {
+    let args = cells(alloc, &[byte])?;
+    let accepted = TextExtractor.accepts(&schema(alloc, &[WORD])?, args.as_slice());
+    Ok(accepted.then_some(TextExtractor.delimiter(args.as_slice())))
+}
+
+#[test]
+fn operators_take_schemas_and_args(rt: HostRuntime) -> Result<(), Fail> {
+    let alloc = rt.alloc();
+    let word = schema(alloc, &[WORD])?;
+    let flag = schema(alloc, &[FLAG])?;
+    let both = schema(alloc, &[WORD, FLAG])?;
+    let counted = schema(alloc, &[WORD, TIMES])?;
+    for (is, want) in [
+        (MultiSetDifference.accepts(&word, &word, &word, &[]), true),
+        (MultiSetDifference.accepts(&word, &both, &word, &[]), false),
+        (InnerPairs.accepts(&word, &flag, &both, &[]), true),
+        (InnerPairs.accepts(&flag, &word, &both, &[]), false),
+        (SplitWords.accepts(&counted, &word, &[]), true),
+        (FirstIsNull.accepts(&word, &flag, &[]), true),
+        (takes_count(alloc, b"0001000000000")?, true),
+        (takes_count(alloc, b"1000000001")?, false),
+        (takes_count(alloc, b"")?, false),
+        (takes_count(alloc, b"-0")?, false),
+        (
+            LogExtractor.accepts(&schema(alloc, &[CLICKS, USER])?, &[]),
+            true,
+        ),
+        (
+            LogExtractor.accepts(&schema(alloc, &[USER, WORD])?, &[]),
+            false,
+        ),
+        (TextExtractor.fixed(alloc, &mut Vec::new(alloc))?, false),
+    ] {
+        assert_eq!(rt; is, want);
+    }
+    for (arg, delimiter) in [
+        (b";".as_slice(), Some(b';')),
+        (b"\0".as_slice(), Some(0)),
+        (b"\"".as_slice(), None),
+        (b"\n".as_slice(), None),
+        (b"\x80".as_slice(), None),
+        (b"".as_slice(), None),
+        (b"ab".as_slice(), None),
+    ] {
+        assert_eq!(rt; takes_delimiter(alloc, arg)?, delimiter);
+    }
+    assert_eq!(rt; TextExtractor.delimiter(&[]), b',');
+    assert_eq!(rt; LogExtractor.delimiter(&[]), b'\t');
+    let mut fixed = Vec::new(alloc);
+    assert!(rt; LogExtractor.fixed(alloc, &mut fixed)?);
+    assert_eq!(rt; fixed.len(), 3);
+    Ok(())
+}
+
+// How many rows a reducer gives of a group of two, with the arg 1.
+fn given_count(alloc: Global, op: &Box<dyn Reducer>) -> Result<usize, AllocError> {
+    let args = cells(alloc, &[b"1"])?;
+    let group = rows(alloc, b"a,1\nb,2\n")?;
+    let mut out = Vec::new(alloc);
+    op.reduce(alloc, args.as_slice(), group.as_slice(), &mut out)?;
+    Ok(out.len())
+}
+
+// None where the reducer went in; else why it did not, and how many rows it gives as it comes back.
+fn refused(
+    alloc: Global,
+    ops: &mut OpSet,
+    op: Box<dyn Reducer>,
+) -> Result<Option<(AddFault, usize)>, AllocError> {
+    match ops.add_reducer(Cell::from_slice(alloc, b"TopQueries")?, op) {
+        Ok(()) => Ok(None),
+        Err((op, fault)) => Ok(Some((fault, given_count(alloc, &op)?))),
+    }
+}
+
+fn place_added(
+    alloc: Global,
+    ops: &mut OpSet,
+    op: Box<dyn Processor>,
+) -> Result<Option<usize>, AllocError> {
+    match ops.add_processor(Cell::from_slice(alloc, b"FirstIsNull")?, op) {
+        Ok(()) => Ok(ops.find_processor(b"FirstIsNull")),
+        Err(_) => Ok(None),
+    }
+}
+
+#[test]
+fn a_set_hands_a_second_reducer_back(rt: HostRuntime) -> Result<(), Fail> {
+    let alloc = rt.alloc();
+    let mut ops = OpSet::new(alloc);
+    for want in [None, Some((AddFault::Duplicate, 1))] {
+        let op = Box::new(alloc, TopQueries)?;
+        assert_eq!(rt; refused(alloc, &mut ops, op)?, want);
+    }
+    assert_eq!(rt; ops.find_reducer(b"TopQueries"), Some(0));
+    let own = Box::new(alloc, FirstIsNull)?;
+    assert_eq!(rt; place_added(alloc, &mut ops, own)?, Some(0));
+    Ok(())
+}
