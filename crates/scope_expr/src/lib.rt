@@ -26,6 +26,3 @@ pub use op::PairOp;
 pub use raw::{RawExpr, RawRef};
 pub use scope::{Entry, Scope, TypeFault};
 pub use typing::typed;
-
-#[cfg(test)]
-mod tests;

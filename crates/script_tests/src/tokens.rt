@@ -31,9 +31,7 @@ fn outline(alloc: Global, text: &str) -> Result<String, AllocError> {
 }
 
 #[test]
-fn texts_are_cut_or_have_a_fault(rt: HostRuntime) -> Result<(), Fail> {
-    let longest = " ".repeat(rt.alloc(), MAX_SCRIPT)?;
-    let too_long = "#".repeat(rt.alloc(), MAX_SCRIPT + 1)?;
+fn tokens_are_cut(rt: HostRuntime) -> Result<(), Fail> {
     let rows = [
         ("", ""),
         (" \t\r\n", ""),
@@ -65,6 +63,17 @@ fn texts_are_cut_or_have_a_fault(rt: HostRuntime) -> Result<(), Fail> {
         ("\"é//\u{1}\" \"\"", "t0-7 t8-10 "),
         (r#""a\\\"\n\t""#, "t0-11 "),
         (r#""\\""a""#, "t0-4 t4-7 "),
+    ];
+    for (text, want) in rows {
+        let is = outline(rt.alloc(), text)?;
+        assert_eq!(rt; is.as_str(), want);
+    }
+    Ok(())
+}
+
+#[test]
+fn faults_have_their_place(rt: HostRuntime) -> Result<(), Fail> {
+    let rows = [
         ("12ab", "fault 0"),
         ("12_", "fault 0"),
         ("5é", "fault 1"),
@@ -90,13 +99,22 @@ fn texts_are_cut_or_have_a_fault(rt: HostRuntime) -> Result<(), Fail> {
         ("a\u{feff}", "fault 1"),
         ("\u{feff}\u{feff}", "fault 3"),
         ("\u{feff}a ?", "fault 5"),
-        (longest.as_str(), ""),
-        (too_long.as_str(), "fault 1048576"),
     ];
     for (text, want) in rows {
         let is = outline(rt.alloc(), text)?;
         assert_eq!(rt; is.as_str(), want);
     }
+    Ok(())
+}
+
+#[test]
+fn the_limit_comes_first(rt: HostRuntime) -> Result<(), Fail> {
+    let longest = " ".repeat(rt.alloc(), MAX_SCRIPT)?;
+    let is = outline(rt.alloc(), longest.as_str())?;
+    assert_eq!(rt; is.as_str(), "");
+    let too_long = "#".repeat(rt.alloc(), MAX_SCRIPT + 1)?;
+    let is = outline(rt.alloc(), too_long.as_str())?;
+    assert_eq!(rt; is.as_str(), "fault 1048576");
     Ok(())
 }
 

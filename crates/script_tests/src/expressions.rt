@@ -1,6 +1,9 @@
-// Values and types, worked out by hand.
-use crate::{Entry, Expr, PairOp, RawExpr, RawRef, Scope, TypeFault, eval, holds, kind_of, typed};
+//! Values and types of expressions, worked out by hand.
+
 use col_sets::ColSet;
+use scope_expr::{
+    Entry, Expr, PairOp, RawExpr, RawRef, Scope, TypeFault, eval, holds, kind_of, typed,
+};
 use scope_value::{Cell, ColType, Row, Value};
 use sqlite_items::{Boxed, Items};
 use std::alloc::{AllocError, Global};
