@@ -15,11 +15,21 @@ use Rattle.logical_dag.specs.Tree.{Expression, leaf, one, two}
 abbrev pub number_column : ℕ → Expr
 number_column c = Col c Long
 
+-- `0 == 1 && 1 == 2`
+abbrev pub links : Expr
+links = Pair And (Pair Eq (number_column 0) (number_column 1)) (Pair Eq (number_column 1) (number_column 2))
+
+-- with `&& 3 == 7`
+abbrev pub fixed_links : Expr
+fixed_links = Pair And links (Pair Eq (number_column 3) (Literal (Int (pos 7))))
+
+-- `0 == -5`
+abbrev pub signed : Expr
+signed = Pair Eq (number_column 0) (Neg (Literal (Int (pos 5))))
+
 -- `0 == 1 && 1 == 2 && 3 == 7 && 0 == -5`, grouped to the left
 abbrev pub linking : Expr
-linking =
-    Pair And (Pair And (Pair And (Pair Eq (number_column 0) (number_column 1)) (Pair Eq (number_column 1) (number_column 2))) (Pair Eq (number_column 3) (Literal (Int (pos 7)))))
-    (Pair Eq (number_column 0) (Neg (Literal (Int (pos 5)))))
+linking = Pair And fixed_links signed
 
 -- the rows of columns 0 to 3 of which it holds
 abbrev pub linked : Expression

@@ -1,5 +1,5 @@
 // Parts of expressions.
-ghost use Rattle.std.specs.Prelude.{◌≡◌, [], ◌∷◌, IfOk};
+ghost use Rattle.std.specs.Prelude.{◌≡◌, [], ◌∷◌, map, IfOk};
 ghost use Rattle.logical_dag.specs.Tree.{leaf, one, two, tree_of};
 ghost use Rattle.logic_tests.specs.Worked as spec;
 
@@ -49,10 +49,28 @@ pub fn beside_scan(
 ) -> Result<Logical, AllocError>
     ensures { IfOk result (λ t. tree_of t ≡ two op (tree_of left) (leaf (LogicOp.Scan number cols))) }
 {
+    match with_scan(alloc, left, number, cols) {
+        Ok(kids) => Ok(Logical { op, kids }),
+        Err(error) => {
+            drop(op);
+            Err(error)
+        }
+    }
+}
+
+// The expression and the scan of that number.
+fn with_scan(
+    alloc: Global,
+    left: Logical,
+    number: u32,
+    cols: ColSet,
+) -> Result<Items<Logical>, AllocError>
+    ensures { IfOk result (λ kids. map tree_of kids ≡ tree_of left ∷ leaf (LogicOp.Scan number cols) ∷ []) }
+{
     let mut kids = Items::new(alloc);
     kids.push(left)?;
     kids.push(scan(alloc, number, cols))?;
-    Ok(Logical { op, kids })
+    Ok(kids)
 }
 
 /// The pairs of rows that agree in the columns `a` on the left and `b` on the right.

@@ -6,7 +6,6 @@ use crate::operators::each_shown;
 use plain_meaning::plain_bag;
 use scope_value::{Cell, Row, Value};
 use std::alloc::{AllocError, Global};
-use std::process::Abort;
 use std::test::Fail;
 use user_ops::{OpSet, Tells};
 
@@ -80,36 +79,25 @@ fn are_same(a: &Option<Vec<Row>>, b: &Option<Vec<Row>>) -> bool {
     }
 }
 
-fn check_rows(
-    rt: &impl Abort,
-    alloc: Global,
-    rows: &Option<Vec<Row>>,
-    wanted: Option<&str>,
-) -> Result<(), AllocError> {
-    let same = are_same(rows, &wanted_rows(alloc, wanted)?);
-    assert!(rt; same, "not the rows {}", wanted.unwrap_or("of no bag"));
-    Ok(())
-}
-
-fn check(
-    rt: &impl Abort,
+fn gives(
     alloc: Global,
     ops: &OpSet,
     shape: Shape,
     scans: &str,
     wanted: Option<&str>,
-) -> Result<(), AllocError>
+) -> Result<bool, AllocError>
     requires { HasEach (⟦<OpSet as Tells>⟧.tells ops.now) }
 {
     let bags = bags_of(alloc, scans)?;
     let rows = rows_over(alloc, ops, shape, bags.as_slice())?;
-    check_rows(rt, alloc, &rows, wanted)
+    Ok(are_same(&rows, &wanted_rows(alloc, wanted)?))
 }
 
-#[test]
-fn expressions_give_their_rows(rt: HostRuntime) -> Result<(), Fail> {
-    let ops = each_shown(&rt, rt.alloc())?;
-    for (shape, scans, wanted) in [
+// The first row of the table that isn't so.
+fn first_wrong(alloc: Global, ops: &OpSet) -> Result<Option<usize>, AllocError>
+    requires { HasEach (⟦<OpSet as Tells>⟧.tells ops.now) }
+{
+    let table = [
         // The rows of the second shared result, and no rows of one that isn't there.
         (Shape::Shared, "1;a,1|_,2", "a,1|_,2"),
         (Shape::Shared, "1", ""),
@@ -152,19 +140,29 @@ fn expressions_give_their_rows(rt: HostRuntime) -> Result<(), Fail> {
             "a,1|_,5|a,2;c,3|a,9|_,8|c,1",
             "a,2|a,1|_,5|c,1|c,3",
         ),
-    ] {
-        check(&rt, rt.alloc(), &ops, shape, scans, Some(wanted))?;
+    ];
+    for (at, (shape, scans, wanted)) in table.iter().enumerate() {
+        if !gives(alloc, ops, *shape, scans, Some(wanted))? {
+            return Ok(Some(at));
+        }
     }
+    Ok(None)
+}
+
+#[test]
+fn expressions_give_their_rows(rt: HostRuntime) -> Result<(), Fail> {
+    let ops = each_shown(&rt, rt.alloc())?;
+    assert_eq!(rt; first_wrong(rt.alloc(), &ops)?, None);
     // It stands for no bag.
-    check(&rt, rt.alloc(), &ops, Shape::JoinOfOne, "1", None)?;
+    assert!(rt; gives(rt.alloc(), &ops, Shape::JoinOfOne, "1", None)?);
     Ok(())
 }
 
-// Whole and in two steps.
-#[test]
-fn two_steps_give_the_rows_of_one(rt: HostRuntime) -> Result<(), Fail> {
-    let ops = each_shown(&rt, rt.alloc())?;
-    for (whole, steps, rows, wanted) in [
+// The first row of the table of which the whole or the steps aren't so.
+fn first_apart(alloc: Global, ops: &OpSet) -> Result<Option<usize>, AllocError>
+    requires { HasEach (⟦<OpSet as Tells>⟧.tells ops.now) }
+{
+    let table = [
         // Five rows, a sum that has 64 bits in the end, and one that has not.
         (
             Shape::Grouped,
@@ -213,9 +211,21 @@ fn two_steps_give_the_rows_of_one(rt: HostRuntime) -> Result<(), Fail> {
         ),
         // Rows that tie in the column go by all values.
         (Shape::Top, Shape::TopInSteps, "x,3|y,5|a,5|b,5", "a,5|b,5"),
-    ] {
-        check(&rt, rt.alloc(), &ops, whole, rows, Some(wanted))?;
-        check(&rt, rt.alloc(), &ops, steps, rows, Some(wanted))?;
+    ];
+    for (at, (whole, steps, rows, wanted)) in table.iter().enumerate() {
+        let is_so = gives(alloc, ops, *whole, rows, Some(wanted))?
+            && gives(alloc, ops, *steps, rows, Some(wanted))?;
+        if !is_so {
+            return Ok(Some(at));
+        }
     }
+    Ok(None)
+}
+
+// Whole and in two steps.
+#[test]
+fn two_steps_give_the_rows_of_one(rt: HostRuntime) -> Result<(), Fail> {
+    let ops = each_shown(&rt, rt.alloc())?;
+    assert_eq!(rt; first_apart(rt.alloc(), &ops)?, None);
     Ok(())
 }

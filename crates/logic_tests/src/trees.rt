@@ -17,18 +17,39 @@ pub fn four_columns() -> ColSet
     ColSet::empty().with(0).with(1).with(2).with(3)
 }
 
+// `0 == 1 && 1 == 2`.
+fn links(alloc: Global) -> Result<Expr, AllocError>
+    ensures { IfOk result (λ e. e ≡ spec.links) }
+{
+    let first = pair(alloc, PairOp::Eq, column(0), column(1))?;
+    let second = pair(alloc, PairOp::Eq, column(1), column(2))?;
+    pair(alloc, PairOp::And, first, second)
+}
+
+// With `&& 3 == 7`.
+fn fixed_links(alloc: Global) -> Result<Expr, AllocError>
+    ensures { IfOk result (λ e. e ≡ spec.fixed_links) }
+{
+    let links = links(alloc)?;
+    let constant = pair(alloc, PairOp::Eq, column(3), number(7))?;
+    pair(alloc, PairOp::And, links, constant)
+}
+
+// `0 == -5`.
+fn signed(alloc: Global) -> Result<Expr, AllocError>
+    ensures { IfOk result (λ e. e ≡ spec.signed) }
+{
+    let five = Boxed::new(alloc, number(5))?;
+    pair(alloc, PairOp::Eq, column(0), Expr::Neg(five))
+}
+
 // `0 == 1 && 1 == 2 && 3 == 7 && 0 == -5`.
 fn linking(alloc: Global) -> Result<Expr, AllocError>
     ensures { IfOk result (λ e. e ≡ spec.linking) }
 {
-    let first = pair(alloc, PairOp::Eq, column(0), column(1))?;
-    let second = pair(alloc, PairOp::Eq, column(1), column(2))?;
-    let constant = pair(alloc, PairOp::Eq, column(3), number(7))?;
-    let signed = Expr::Neg(Boxed::new(alloc, number(5))?);
-    let none = pair(alloc, PairOp::Eq, column(0), signed)?;
-    let links = pair(alloc, PairOp::And, first, second)?;
-    let more = pair(alloc, PairOp::And, links, constant)?;
-    pair(alloc, PairOp::And, more, none)
+    let fixed = fixed_links(alloc)?;
+    let signed = signed(alloc)?;
+    pair(alloc, PairOp::And, fixed, signed)
 }
 
 /// The rows of columns 0 to 3 where the columns 0, 1 and 2 are equal, column 3 is 7, and column 0 is a signed number.

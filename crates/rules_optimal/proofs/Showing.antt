@@ -12,7 +12,7 @@ use Rattle.logical_dag.specs.Facts.{AreFactsOf}
 use Rattle.logical_dag.specs.Places.{IsJoinOf}
 use Rattle.logical_dag.specs.Places as joins
 use Rattle.logical_dag.specs.Scripts.{top_of}
-use Rattle.logical_dag.specs.Showing.{two_joined}
+use Rattle.rules_shapes.specs.Worked.{two_joined}
 use Rattle.logical_dag.proofs.RowValues.{in_list, list_in}
 use Rattle.rules_places.specs.Space.{is_block}
 use Rattle.rules_shapes.specs.Shapes.{top_number, numbered_leaves}

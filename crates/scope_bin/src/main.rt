@@ -37,15 +37,15 @@ struct Boxes {
     pairs: Box<InnerPairs>,
 }
 
-fn main(rt: HostRuntime) -> io::Result<ExitCode> {
+fn main(rt: HostRuntime) -> ExitCode {
     let alloc = rt.alloc();
     let status = run(&rt, alloc).unwrap_or(Status::NoMemory);
     let mut line = Vec::new(alloc);
-    // Where memory for the line is refused, the number alone tells how the call ended.
+    // Where memory for the line is refused, or standard error can't be written, the number alone tells how the call ended.
     if status_line(&status, &mut line).is_ok() && !line.is_empty() && line.push(b'\n').is_ok() {
-        rt.stderr().write_all(line.as_slice())?;
+        let _ = rt.stderr().write_all(line.as_slice());
     }
-    Ok(ExitCode::from(exit_code(&status)))
+    ExitCode::from(exit_code(&status))
 }
 
 // Makes all that the top call is handed, and calls it.
@@ -63,21 +63,42 @@ fn run_over_files<R: Files>(
     names: Names,
     boxes: Boxes,
 ) -> Status {
+    let Names {
+        log: log_name,
+        text: text_name,
+        split: split_name,
+        top: top_name,
+        difference: difference_name,
+        pairs: pairs_name,
+    } = names;
+    let Boxes {
+        log,
+        text,
+        split,
+        top,
+        difference,
+        pairs,
+    } = boxes;
     let mut ops = OpSet::new(alloc);
     let added = [
-        ops.add_extractor(names.log, boxes.log).is_ok(),
-        ops.add_extractor(names.text, boxes.text).is_ok(),
-        ops.add_processor(names.split, boxes.split).is_ok(),
-        ops.add_reducer(names.top, boxes.top).is_ok(),
-        ops.add_combiner(names.difference, boxes.difference).is_ok(),
-        ops.add_combiner(names.pairs, boxes.pairs).is_ok(),
+        ops.add_extractor(log_name, log).is_ok(),
+        ops.add_extractor(text_name, text).is_ok(),
+        ops.add_processor(split_name, split).is_ok(),
+        ops.add_reducer(top_name, top).is_ok(),
+        ops.add_combiner(difference_name, difference).is_ok(),
+        ops.add_combiner(pairs_name, pairs).is_ok(),
     ];
     // No name stands twice, so that a refusal is want of memory.
-    if added != [true; 6] {
-        return Status::NoMemory;
+    if added == [true; 6] {
+        call(rt, alloc, words, &ops)
+    } else {
+        Status::NoMemory
     }
+}
+
+fn call<R: Files>(rt: &R, alloc: Global, words: &[String], ops: &OpSet) -> Status {
     let mut store = FileStore::new(alloc, rt);
-    scope_main(alloc, words, &mut store, &ops)
+    scope_main(alloc, words, &mut store, ops)
 }
 
 fn shipped_boxes(alloc: Global) -> Result<Boxes, AllocError> {

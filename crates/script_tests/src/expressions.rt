@@ -7,7 +7,6 @@ use scope_expr::{
 use scope_value::{Cell, ColType, Row, Value};
 use sqlite_items::{Boxed, Items};
 use std::alloc::{AllocError, Global};
-use std::process::Abort;
 use std::test::Fail;
 
 // A value as the tables write it: `_` is null, digits are a number, other text but the truth values is a string.
@@ -52,27 +51,35 @@ fn row_of(alloc: Global, value: &str) -> Result<Row, AllocError> {
     Ok(row)
 }
 
-// The expression has this value, and holds where that is true; its copy does too.
-fn check_value(
-    rt: &impl Abort,
-    alloc: Global,
-    front: Front,
-    value: &str,
-    want: &str,
-) -> Result<(), AllocError> {
-    let cols = ColSet::empty().with(5).with(2);
-    let row = row_of(alloc, value)?;
-    let want = value_of(alloc, want)?;
-    let e = expr_of(alloc, front)?.copy(alloc)?;
-    assert_eq!(rt; eval(&e, cols, &row)?, want, "at {value}");
-    assert_eq!(rt; holds(&e, cols, &row), want == Value::Bool(true));
-    Ok(())
+// A copy of the expression, which does as it does.
+fn copied(alloc: Global, front: Front) -> Result<Expr, AllocError> {
+    let e = expr_of(alloc, front)?;
+    e.copy(alloc)
 }
 
-// What each gives: arithmetic, also at the least number and with null, comparisons, links and signs.
-#[test]
-fn values_of_operators(rt: HostRuntime) -> Result<(), Fail> {
-    for (front, value, want) in [
+fn value_given(alloc: Global, front: Front, value: &str) -> Result<Value, AllocError> {
+    let e = copied(alloc, front)?;
+    let row = row_of(alloc, value)?;
+    eval(&e, ColSet::empty().with(5).with(2), &row)
+}
+
+fn holds_given(alloc: Global, front: Front, value: &str) -> Result<bool, AllocError> {
+    let e = copied(alloc, front)?;
+    let row = row_of(alloc, value)?;
+    Ok(holds(&e, ColSet::empty().with(5).with(2), &row))
+}
+
+// The expression has this value, and holds where that is true.
+fn has_value(alloc: Global, front: Front, value: &str, want: &str) -> Result<bool, AllocError> {
+    let is = value_given(alloc, front, value)?;
+    let want_truth = want == "true";
+    let want = value_of(alloc, want)?;
+    Ok(is == want && holds_given(alloc, front, value)? == want_truth)
+}
+
+// The first row of arithmetic that isn't so, also at the least number and with null.
+fn wrong_arithmetic(alloc: Global) -> Result<Option<usize>, AllocError> {
+    let table = [
         (Front::Pair("7", PairOp::Div), "0", "_"),
         (Front::Pair("9223372036854775807", PairOp::Add), "1", "_"),
         (Front::Pair("-7", PairOp::Rem), "3", "-1"),
@@ -84,6 +91,22 @@ fn values_of_operators(rt: HostRuntime) -> Result<(), Fail> {
         (Front::Pair("-9223372036854775808", PairOp::Rem), "-1", "0"),
         (Front::Pair("-9223372036854775808", PairOp::Sub), "1", "_"),
         (Front::Pair("7", PairOp::Rem), "0", "_"),
+        (Front::Pair("_", PairOp::Add), "1", "_"),
+        (Front::Pair("2", PairOp::Mul), "_", "_"),
+        (Front::Pair("_", PairOp::Div), "2", "_"),
+        (Front::Pair("7", PairOp::Rem), "_", "_"),
+    ];
+    for (at, (front, value, want)) in table.iter().enumerate() {
+        if !has_value(alloc, *front, value, want)? {
+            return Ok(Some(at));
+        }
+    }
+    Ok(None)
+}
+
+// The first comparison that isn't so.
+fn wrong_comparison(alloc: Global) -> Result<Option<usize>, AllocError> {
+    let table = [
         (Front::Pair("_", PairOp::Eq), "_", "true"),
         (Front::Pair("_", PairOp::Ne), "_", "false"),
         (Front::Pair("_", PairOp::Lt), "false", "true"),
@@ -91,12 +114,20 @@ fn values_of_operators(rt: HostRuntime) -> Result<(), Fail> {
         (Front::Pair("b", PairOp::Gt), "ab", "true"),
         (Front::Pair("a", PairOp::Ge), "ab", "false"),
         (Front::Pair("_", PairOp::Le), "-5", "true"),
-        (Front::Pair("_", PairOp::Add), "1", "_"),
-        (Front::Pair("2", PairOp::Mul), "_", "_"),
-        (Front::Pair("_", PairOp::Div), "2", "_"),
-        (Front::Pair("7", PairOp::Rem), "_", "_"),
         (Front::Pair("-1", PairOp::Gt), "_", "true"),
         (Front::Pair("_", PairOp::Ge), "0", "false"),
+    ];
+    for (at, (front, value, want)) in table.iter().enumerate() {
+        if !has_value(alloc, *front, value, want)? {
+            return Ok(Some(at));
+        }
+    }
+    Ok(None)
+}
+
+// The first link or sign that isn't so.
+fn wrong_link(alloc: Global) -> Result<Option<usize>, AllocError> {
+    let table = [
         (Front::Pair("_", PairOp::Or), "true", "true"),
         (Front::Pair("_", PairOp::Or), "false", "false"),
         (Front::Pair("true", PairOp::And), "_", "false"),
@@ -109,9 +140,20 @@ fn values_of_operators(rt: HostRuntime) -> Result<(), Fail> {
         (Front::Not, "-9223372036854775808", "true"),
         (Front::Not, "5", "true"),
         (Front::Not, "true", "false"),
-    ] {
-        check_value(&rt, rt.alloc(), front, value, want)?;
+    ];
+    for (at, (front, value, want)) in table.iter().enumerate() {
+        if !has_value(alloc, *front, value, want)? {
+            return Ok(Some(at));
+        }
     }
+    Ok(None)
+}
+
+#[test]
+fn values_of_operators(rt: HostRuntime) -> Result<(), Fail> {
+    assert_eq!(rt; wrong_arithmetic(rt.alloc())?, None);
+    assert_eq!(rt; wrong_comparison(rt.alloc())?, None);
+    assert_eq!(rt; wrong_link(rt.alloc())?, None);
     Ok(())
 }
 
@@ -206,37 +248,27 @@ fn kind_of_raw(alloc: Global, raw: &RawExpr) -> Result<Result<ColType, TypeFault
     }
 }
 
-fn check_type(
-    rt: &impl Abort,
+fn has_type(
     alloc: Global,
     leaf: Leaf,
     around: Around,
     want: Result<ColType, TypeFault>,
-) -> Result<(), AllocError> {
+) -> Result<bool, AllocError> {
     let raw = raw_of(alloc, leaf, around)?;
-    assert_eq!(rt; kind_of_raw(alloc, &raw)?, want);
-    Ok(())
+    Ok(kind_of_raw(alloc, &raw)? == want)
 }
 
-// The type of each, or its first fault.
-#[test]
-fn types_of_operators(rt: HostRuntime) -> Result<(), Fail> {
+// The first that has a type and not this one.
+fn wrong_type(alloc: Global) -> Result<Option<usize>, AllocError> {
     let null = Leaf::Literal("_");
-    let text = Leaf::Literal("x");
-    let one = Leaf::Literal("1");
     let small = Leaf::Name("s.n");
     let truth = Leaf::Name("f");
-    for (leaf, around, want) in [
+    let table = [
         (small, Around::Pair(PairOp::Add, small), Ok(ColType::Long)),
         (
             null,
             Around::Pair(PairOp::Mul, Leaf::Agg(0)),
             Ok(ColType::Long),
-        ),
-        (
-            one,
-            Around::Pair(PairOp::Add, truth),
-            Err(TypeFault::Mismatch),
         ),
         (null, Around::Pair(PairOp::Eq, null), Ok(ColType::Bool)),
         (
@@ -244,12 +276,36 @@ fn types_of_operators(rt: HostRuntime) -> Result<(), Fail> {
             Around::Pair(PairOp::Lt, Leaf::Name("u.n")),
             Ok(ColType::Bool),
         ),
+        (truth, Around::Pair(PairOp::And, null), Ok(ColType::Bool)),
+        (null, Around::Nothing, Ok(ColType::Text)),
+        (small, Around::Nothing, Ok(ColType::Int)),
+        (small, Around::Neg, Ok(ColType::Long)),
+    ];
+    for (at, (leaf, around, want)) in table.iter().enumerate() {
+        if !has_type(alloc, *leaf, *around, *want)? {
+            return Ok(Some(at));
+        }
+    }
+    Ok(None)
+}
+
+// The first whose first fault isn't this.
+fn wrong_fault(alloc: Global) -> Result<Option<usize>, AllocError> {
+    let text = Leaf::Literal("x");
+    let one = Leaf::Literal("1");
+    let small = Leaf::Name("s.n");
+    let truth = Leaf::Name("f");
+    let table = [
+        (
+            one,
+            Around::Pair(PairOp::Add, truth),
+            Err(TypeFault::Mismatch),
+        ),
         (
             Leaf::Name("t"),
             Around::Pair(PairOp::Le, one),
             Err(TypeFault::Mismatch),
         ),
-        (truth, Around::Pair(PairOp::And, null), Ok(ColType::Bool)),
         (
             truth,
             Around::Pair(PairOp::Or, one),
@@ -285,12 +341,19 @@ fn types_of_operators(rt: HostRuntime) -> Result<(), Fail> {
             Around::Pair(PairOp::Add, Leaf::Agg(1)),
             Err(TypeFault::Unknown),
         ),
-        (null, Around::Nothing, Ok(ColType::Text)),
-        (small, Around::Nothing, Ok(ColType::Int)),
-        (small, Around::Neg, Ok(ColType::Long)),
         (small, Around::Not, Err(TypeFault::Mismatch)),
-    ] {
-        check_type(&rt, rt.alloc(), leaf, around, want)?;
+    ];
+    for (at, (leaf, around, want)) in table.iter().enumerate() {
+        if !has_type(alloc, *leaf, *around, *want)? {
+            return Ok(Some(at));
+        }
     }
+    Ok(None)
+}
+
+#[test]
+fn types_of_operators(rt: HostRuntime) -> Result<(), Fail> {
+    assert_eq!(rt; wrong_type(rt.alloc())?, None);
+    assert_eq!(rt; wrong_fault(rt.alloc())?, None);
     Ok(())
 }

@@ -215,9 +215,84 @@ fn operators_give_worked_rows(rt: HostRuntime) -> Result<(), Fail> {
     Ok(())
 }
 
+// An operator, and the columns that it is asked to take.
+#[derive(Clone, Copy)]
+enum Asked<'a> {
+    Difference(&'a [Named<'a>], &'a [Named<'a>], &'a [Named<'a>]),
+    Pairs(&'a [Named<'a>], &'a [Named<'a>], &'a [Named<'a>]),
+    Split(&'a [Named<'a>], &'a [Named<'a>]),
+    IsNull(&'a [Named<'a>], &'a [Named<'a>]),
+    Log(&'a [Named<'a>]),
+    // The arg alone, over a word.
+    Top(&'a [u8]),
+}
+
+fn takes(alloc: Global, asked: Asked) -> Result<bool, AllocError> {
+    match asked {
+        Asked::Difference(left, right, output) => takes_both(
+            alloc,
+            &MultiSetDifference,
+            left,
+            right,
+            output,
+        ),
+        Asked::Pairs(left, right, output) => takes_both(alloc, &InnerPairs, left, right, output),
+        Asked::Split(input, output) => takes_rows(alloc, &SplitWords, input, output),
+        Asked::IsNull(input, output) => takes_rows(alloc, &FirstIsNull, input, output),
+        Asked::Log(output) => Ok(LogExtractor.accepts(&schema(alloc, output)?, &[])),
+        Asked::Top(count) => takes_count(alloc, count),
+    }
+}
+
+fn takes_both(
+    alloc: Global,
+    op: &dyn Combiner,
+    left: &[Named],
+    right: &[Named],
+    output: &[Named],
+) -> Result<bool, AllocError> {
+    let left = schema(alloc, left)?;
+    let right = schema(alloc, right)?;
+    Ok(op.accepts(&left, &right, &schema(alloc, output)?, &[]))
+}
+
+fn takes_rows(
+    alloc: Global,
+    op: &dyn Processor,
+    input: &[Named],
+    output: &[Named],
+) -> Result<bool, AllocError> {
+    let input = schema(alloc, input)?;
+    Ok(op.accepts(&input, &schema(alloc, output)?, &[]))
+}
+
 fn takes_count(alloc: Global, count: &[u8]) -> Result<bool, AllocError> {
     let schema = schema(alloc, &[WORD])?;
     Ok(TopQueries.accepts(&schema, &schema, cells(alloc, &[count])?.as_slice()))
+}
+
+#[test]
+fn operators_take_schemas_and_args(rt: HostRuntime) -> Result<(), Fail> {
+    let word: &[Named] = &[WORD];
+    let flag: &[Named] = &[FLAG];
+    let both: &[Named] = &[WORD, FLAG];
+    for (asked, want) in [
+        (Asked::Difference(word, word, word), true),
+        (Asked::Difference(word, both, word), false),
+        (Asked::Pairs(word, flag, both), true),
+        (Asked::Pairs(flag, word, both), false),
+        (Asked::Split(&[WORD, TIMES], word), true),
+        (Asked::IsNull(word, flag), true),
+        (Asked::Top(b"0001000000000"), true),
+        (Asked::Top(b"1000000001"), false),
+        (Asked::Top(b""), false),
+        (Asked::Top(b"-0"), false),
+        (Asked::Log(&[CLICKS, USER]), true),
+        (Asked::Log(&[USER, WORD]), false),
+    ] {
+        assert_eq!(rt; takes(rt.alloc(), asked)?, want);
+    }
+    Ok(())
 }
 
 fn takes_delimiter(alloc: Global, byte: &[u8]) -> Result<Option<u8>, AllocError> {
@@ -226,36 +301,15 @@ fn takes_delimiter(alloc: Global, byte: &[u8]) -> Result<Option<u8>, AllocError>
     Ok(accepted.then_some(TextExtractor.delimiter(args.as_slice())))
 }
 
+fn fixed_count(alloc: Global, op: &dyn Extractor) -> Result<Option<usize>, AllocError> {
+    let mut fixed = Vec::new(alloc);
+    let has = op.fixed(alloc, &mut fixed)?;
+    Ok(has.then_some(fixed.len()))
+}
+
 #[test]
-fn operators_take_schemas_and_args(rt: HostRuntime) -> Result<(), Fail> {
+fn extractors_tell_delimiters_and_columns(rt: HostRuntime) -> Result<(), Fail> {
     let alloc = rt.alloc();
-    let word = schema(alloc, &[WORD])?;
-    let flag = schema(alloc, &[FLAG])?;
-    let both = schema(alloc, &[WORD, FLAG])?;
-    let counted = schema(alloc, &[WORD, TIMES])?;
-    for (is, want) in [
-        (MultiSetDifference.accepts(&word, &word, &word, &[]), true),
-        (MultiSetDifference.accepts(&word, &both, &word, &[]), false),
-        (InnerPairs.accepts(&word, &flag, &both, &[]), true),
-        (InnerPairs.accepts(&flag, &word, &both, &[]), false),
-        (SplitWords.accepts(&counted, &word, &[]), true),
-        (FirstIsNull.accepts(&word, &flag, &[]), true),
-        (takes_count(alloc, b"0001000000000")?, true),
-        (takes_count(alloc, b"1000000001")?, false),
-        (takes_count(alloc, b"")?, false),
-        (takes_count(alloc, b"-0")?, false),
-        (
-            LogExtractor.accepts(&schema(alloc, &[CLICKS, USER])?, &[]),
-            true,
-        ),
-        (
-            LogExtractor.accepts(&schema(alloc, &[USER, WORD])?, &[]),
-            false,
-        ),
-        (TextExtractor.fixed(alloc, &mut Vec::new(alloc))?, false),
-    ] {
-        assert_eq!(rt; is, want);
-    }
     for (arg, delimiter) in [
         (b";".as_slice(), Some(b';')),
         (b"\0".as_slice(), Some(0)),
@@ -269,9 +323,8 @@ fn operators_take_schemas_and_args(rt: HostRuntime) -> Result<(), Fail> {
     }
     assert_eq!(rt; TextExtractor.delimiter(&[]), b',');
     assert_eq!(rt; LogExtractor.delimiter(&[]), b'\t');
-    let mut fixed = Vec::new(alloc);
-    assert!(rt; LogExtractor.fixed(alloc, &mut fixed)?);
-    assert_eq!(rt; fixed.len(), 3);
+    assert_eq!(rt; fixed_count(alloc, &TextExtractor)?, None);
+    assert_eq!(rt; fixed_count(alloc, &LogExtractor)?, Some(3));
     Ok(())
 }
 
@@ -311,12 +364,19 @@ fn place_added(
 fn a_set_hands_a_second_reducer_back(rt: HostRuntime) -> Result<(), Fail> {
     let alloc = rt.alloc();
     let mut ops = OpSet::new(alloc);
-    for want in [None, Some((AddFault::Duplicate, 1))] {
-        let op = Box::new(alloc, TopQueries)?;
-        assert_eq!(rt; refused(alloc, &mut ops, op)?, want);
-    }
-    assert_eq!(rt; ops.find_reducer(b"TopQueries"), Some(0));
+    let op = Box::new(alloc, TopQueries)?;
+    assert!(rt; refused(alloc, &mut ops, op)?.is_none());
+    let op = Box::new(alloc, TopQueries)?;
+    assert!(rt; refused(alloc, &mut ops, op)? == Some((AddFault::Duplicate, 1)));
+    assert!(rt; ops.find_reducer(b"TopQueries") == Some(0));
+    Ok(())
+}
+
+#[test]
+fn a_set_takes_an_operator_that_is_not_shipped(rt: HostRuntime) -> Result<(), Fail> {
+    let alloc = rt.alloc();
+    let mut ops = OpSet::new(alloc);
     let own = Box::new(alloc, FirstIsNull)?;
-    assert_eq!(rt; place_added(alloc, &mut ops, own)?, Some(0));
+    assert!(rt; place_added(alloc, &mut ops, own)? == Some(0));
     Ok(())
 }
