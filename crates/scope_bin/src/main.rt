@@ -15,28 +15,6 @@ use std::process::ExitCode;
 use std::rt::{Env, Files};
 use user_ops::OpSet;
 
-// The names of the shipped operators.
-#[derive(Drop)]
-struct Names {
-    log: Cell,
-    text: Cell,
-    split: Cell,
-    top: Cell,
-    difference: Cell,
-    pairs: Cell,
-}
-
-// The shipped operators, each in a box of its own.
-#[derive(Drop)]
-struct Boxes {
-    log: Box<LogExtractor>,
-    text: Box<TextExtractor>,
-    split: Box<SplitWords>,
-    top: Box<TopQueries>,
-    difference: Box<MultiSetDifference>,
-    pairs: Box<InnerPairs>,
-}
-
 fn main(rt: HostRuntime) -> ExitCode {
     let alloc = rt.alloc();
     let status = run(&rt, alloc).unwrap_or(Status::NoMemory);
@@ -51,76 +29,84 @@ fn main(rt: HostRuntime) -> ExitCode {
 // Makes all that the top call is handed, and calls it.
 fn run<R: Env + Files + AllocGlobal>(rt: &R, alloc: Global) -> Result<Status, AllocError> {
     let words = words_of(rt, alloc)?;
-    let names = shipped_names(alloc)?;
-    let boxes = shipped_boxes(alloc)?;
-    Ok(run_over_files(rt, alloc, words.as_slice(), names, boxes))
+    let mut ops = OpSet::new(alloc);
+    add_shipped(alloc, &mut ops)?;
+    let mut store = FileStore::new(alloc, rt);
+    Ok(scope_main(alloc, words.as_slice(), &mut store, &ops))
 }
 
-fn run_over_files<R: Files>(
-    rt: &R,
-    alloc: Global,
-    words: &[String],
-    names: Names,
-    boxes: Boxes,
-) -> Status {
-    let Names {
-        log: log_name,
-        text: text_name,
-        split: split_name,
-        top: top_name,
-        difference: difference_name,
-        pairs: pairs_name,
-    } = names;
-    let Boxes {
-        log,
-        text,
-        split,
-        top,
-        difference,
-        pairs,
-    } = boxes;
-    let mut ops = OpSet::new(alloc);
-    let added = [
-        ops.add_extractor(log_name, log).is_ok(),
-        ops.add_extractor(text_name, text).is_ok(),
-        ops.add_processor(split_name, split).is_ok(),
-        ops.add_reducer(top_name, top).is_ok(),
-        ops.add_combiner(difference_name, difference).is_ok(),
-        ops.add_combiner(pairs_name, pairs).is_ok(),
-    ];
-    // No name stands twice, so that a refusal is want of memory.
-    if added == [true; 6] {
-        call(rt, alloc, words, &ops)
-    } else {
-        Status::NoMemory
+// Adds the shipped operators. No name stands twice, so that a refusal is want of memory.
+fn add_shipped(alloc: Global, ops: &mut OpSet) -> Result<(), AllocError> {
+    add_log_extractor(alloc, ops)?;
+    add_text_extractor(alloc, ops)?;
+    add_split_words(alloc, ops)?;
+    add_top_queries(alloc, ops)?;
+    add_multi_set_difference(alloc, ops)?;
+    add_inner_pairs(alloc, ops)
+}
+
+// Where what was refused is dropped, the refusal is want of memory.
+fn added<T>(result: Result<(), T>) -> Result<(), AllocError> {
+    match result {
+        Ok(()) => Ok(()),
+        Err(_) => Err(AllocError),
     }
 }
 
-fn call<R: Files>(rt: &R, alloc: Global, words: &[String], ops: &OpSet) -> Status {
-    let mut store = FileStore::new(alloc, rt);
-    scope_main(alloc, words, &mut store, ops)
+fn add_log_extractor(alloc: Global, ops: &mut OpSet) -> Result<(), AllocError> {
+    let name = Cell::from_slice(alloc, b"LogExtractor")?;
+    let op = Box::new(alloc, LogExtractor)?;
+    added(ops.add_extractor(name, op))
 }
 
-fn shipped_boxes(alloc: Global) -> Result<Boxes, AllocError> {
-    Ok(Boxes {
-        log: Box::new(alloc, LogExtractor)?,
-        text: Box::new(alloc, TextExtractor)?,
-        split: Box::new(alloc, SplitWords)?,
-        top: Box::new(alloc, TopQueries)?,
-        difference: Box::new(alloc, MultiSetDifference)?,
-        pairs: Box::new(alloc, InnerPairs)?,
-    })
+fn add_text_extractor(alloc: Global, ops: &mut OpSet) -> Result<(), AllocError> {
+    let name = Cell::from_slice(alloc, b"TextExtractor")?;
+    let op = Box::new(alloc, TextExtractor)?;
+    added(ops.add_extractor(name, op))
 }
 
-fn shipped_names(alloc: Global) -> Result<Names, AllocError> {
-    Ok(Names {
-        log: Cell::from_slice(alloc, b"LogExtractor")?,
-        text: Cell::from_slice(alloc, b"TextExtractor")?,
-        split: Cell::from_slice(alloc, b"SplitWords")?,
-        top: Cell::from_slice(alloc, b"TopQueries")?,
-        difference: Cell::from_slice(alloc, b"MultiSetDifference")?,
-        pairs: Cell::from_slice(alloc, b"InnerPairs")?,
-    })
+fn add_split_words(alloc: Global, ops: &mut OpSet) -> Result<(), AllocError> {
+    let name = Cell::from_slice(alloc, b"SplitWords")?;
+    let op = Box::new(alloc, SplitWords)?;
+    added(ops.add_processor(name, op))
+}
+
+fn add_top_queries(alloc: Global, ops: &mut OpSet) -> Result<(), AllocError> {
+    let name = Cell::from_slice(alloc, b"TopQueries")?;
+    let op = Box::new(alloc, TopQueries)?;
+    added(ops.add_reducer(name, op))
+}
+
+fn add_multi_set_difference(alloc: Global, ops: &mut OpSet) -> Result<(), AllocError> {
+    let name = Cell::from_slice(alloc, b"MultiSetDifference")?;
+    let op = Box::new(alloc, MultiSetDifference)?;
+    added(ops.add_combiner(name, op))
+}
+
+fn add_inner_pairs(alloc: Global, ops: &mut OpSet) -> Result<(), AllocError> {
+    let name = Cell::from_slice(alloc, b"InnerPairs")?;
+    let op = Box::new(alloc, InnerPairs)?;
+    added(ops.add_combiner(name, op))
+}
+
+// The word, or `scope` in place of the first one, which is the program's own name.
+fn word_at(alloc: Global, at: usize, word: String) -> Result<String, AllocError> {
+    if at > 0 {
+        return Ok(word);
+    }
+    drop(word);
+    String::from_str(alloc, "scope")
+}
+
+// Adds the word at its place.
+fn put_word(
+    alloc: Global,
+    at: usize,
+    word: String,
+    words: &mut Vec<String>,
+) -> Result<(), AllocError> {
+    let word = word_at(alloc, at, word)?;
+    added(words.push(word))
 }
 
 // The process's words, with `scope` in place of the program's own name; none where a word isn't UTF-8, which no reading takes.
@@ -129,11 +115,7 @@ fn words_of<R: Env + AllocGlobal>(rt: &R, alloc: Global) -> Result<Vec<String>, 
     match env::args(rt) {
         Ok(args) => {
             for (at, word) in args.enumerate() {
-                words.push(if at == 0 {
-                    String::from_str(alloc, "scope")?
-                } else {
-                    word
-                })?;
+                put_word(alloc, at, word, &mut words)?;
             }
             Ok(words)
         }
