@@ -12,6 +12,3 @@ pub use col_set::{ColId, ColSet};
 pub use dir::Dir;
 pub use key_cols::KeyCols;
 pub use key_orders::KeyOrders;
-
-#[cfg(test)]
-mod tests;

@@ -11,6 +11,3 @@ mod row_ref;
 pub use batch::Batch;
 pub use batch_list::BatchList;
 pub use row_ref::RowRef;
-
-#[cfg(test)]
-mod tests;

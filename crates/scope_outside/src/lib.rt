@@ -18,6 +18,3 @@ pub use file_store::FileStore;
 pub use mem_store::MemStore;
 pub use no_fail_store::NoFailStore;
 pub use store::Store;
-
-#[cfg(test)]
-mod tests;

@@ -9,8 +9,6 @@ mod keys;
 mod laws;
 mod row;
 mod schema;
-#[cfg(test)]
-mod tests;
 mod value;
 mod value_ref;
 

@@ -1,4 +1,1 @@
-pub mod FirstIsNullFits
-pub mod MarkingFits
-pub mod NoRows
 pub mod OneFieldFits

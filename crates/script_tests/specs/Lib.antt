@@ -1,3 +1,1 @@
-pub mod FirstIsNull
-pub mod Marking
 pub mod OneField

@@ -1,25 +1,17 @@
-//! Tests that stand on several crates of reading, operators and the top call.
+//! Tests of what reads scripts and records.
 #![tactic(auto)]
 
 #[cfg(test)]
 mod expressions;
 #[cfg(test)]
-mod first_is_null;
-#[cfg(test)]
 mod grammar;
-#[cfg(test)]
-mod marking;
 #[cfg(test)]
 mod one_field;
 #[cfg(test)]
-mod operators;
+mod parsed;
 #[cfg(test)]
 mod records;
 #[cfg(test)]
-mod shipped;
-#[cfg(test)]
-mod silent;
-#[cfg(test)]
 mod tokens;
 #[cfg(test)]
-mod top;
+mod trees;

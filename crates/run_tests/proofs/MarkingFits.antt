@@ -6,7 +6,7 @@ use Rattle.scope_value.specs.declared.schema.Column.{Column}
 use Rattle.scope_value.specs.declared.value.Value.TheVariants.{Bytes}
 use Rattle.scope_value.specs.Fits.{Fits, RowFits}
 use Rattle.user_ops.specs.Extracts.{ReadsFitting}
-use Rattle.script_tests.specs.Marking.{marking, is_text, is_one_text}
+use Rattle.run_tests.specs.Marking.{marking, is_text, is_one_text}
 
 text_fits : (k : ColType) → is_text k ≡ true → Fits k (Bytes (codes "seen"))
 text_fits Int h = absurd (cc)

@@ -1,6 +1,6 @@
 // An extractor of the tests, which isn't shipped.
 ghost use Rattle.std.specs.Prelude.{◌≡◌};
-ghost use Rattle.script_tests.specs.Marking.{marking, is_one_text as spec_is_one_text};
+ghost use Rattle.run_tests.specs.Marking.{marking, is_one_text as spec_is_one_text};
 
 use scope_value::{Cell, ColType, Column, Schema, Value};
 use std::alloc::{AllocError, Global};

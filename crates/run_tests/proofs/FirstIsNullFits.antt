@@ -9,7 +9,7 @@ use Rattle.scope_value.specs.declared.value.Value.TheVariants as value
 use Rattle.scope_value.specs.Fits.{Fits, RowFits}
 use Rattle.user_ops.specs.Appends.{GivesFitting}
 use Rattle.scope_shipped.specs.Arguments.{has_none}
-use Rattle.script_tests.specs.FirstIsNull.{first_is_null, begins_with_null, is_one_truth}
+use Rattle.run_tests.specs.FirstIsNull.{first_is_null, begins_with_null, is_one_truth}
 use Rattle.scope_shipped.specs.SameTypes.{same_type}
 use Rattle.scope_shipped.proofs.SameTypesLemmas.{and-second}
 

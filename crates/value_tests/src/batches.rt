@@ -1,6 +1,6 @@
 // Batches against their lists of rows.
-use crate::{Batch, BatchList};
 use arrayvec::ArrayVec;
+use row_batch::{Batch, BatchList};
 use scope_value::{Cell, KeyItem, KeyList, Row, Value, ValueRef};
 use std::alloc::{AllocError, Global};
 use std::test::Fail;

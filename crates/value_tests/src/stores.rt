@@ -1,5 +1,5 @@
 //! Both stores in memory, call after call.
-use crate::{MemStore, NoFailStore, ReadAnswer, Store, WriteAnswer};
+use scope_outside::{MemStore, NoFailStore, ReadAnswer, Store, WriteAnswer};
 use std::test::Fail;
 
 #[test]

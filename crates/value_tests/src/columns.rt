@@ -1,5 +1,5 @@
 //! Worked sets, keys and orders.
-use super::*;
+use col_sets::{ColId, ColSet, Dir, KeyCols, KeyOrders};
 use std::process::Abort;
 
 // The set of the columns.

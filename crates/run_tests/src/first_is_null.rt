@@ -1,6 +1,6 @@
 // An operator that is not shipped, as docs/OPERATORS.md builds it.
 ghost use Rattle.std.specs.Prelude.{◌≡◌};
-ghost use Rattle.script_tests.specs.FirstIsNull.{first_is_null, is_one_truth, begins_with_null};
+ghost use Rattle.run_tests.specs.FirstIsNull.{first_is_null, is_one_truth, begins_with_null};
 
 use scope_value::{Cell, ColType, Column, Row, Schema, Value};
 use std::alloc::{AllocError, Global};

@@ -1,0 +1,3 @@
+pub mod FirstIsNullFits
+pub mod MarkingFits
+pub mod NoRows

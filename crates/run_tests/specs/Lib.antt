@@ -1,0 +1,2 @@
+pub mod FirstIsNull
+pub mod Marking
