@@ -8,7 +8,7 @@ use Rattle.scope_expr.specs.declared.expr.Expr.TheVariants.{Literal, Col, Neg, N
 use Rattle.scope_expr.specs.Value.{value, column_value, negated, combined, is_true}
 use Rattle.scope_expr.specs.Kinds.{EachColumn}
 use denote.Hole.Carrier.{hidden}
-use Rattle.scope_expr.specs.declared.op.PairOp.{PairOp}
+use Rattle.script_trees.specs.declared.op.PairOp.{PairOp}
 use Rattle.scope_expr.specs.declared.expr.Expr.TheBlock.{shape-the_row-Expr-0, hidden-the_row-Expr-0}
 use Rattle.scope_value.specs.declared.value.Value.TheVariants.{Bool as Truth}
 use Rattle.column_ranks.specs.Moved.{with_columns, moved, HasRanks}

@@ -1,12 +1,12 @@
 -- What is spelled is read, level by level, whatever follows that can't go on with it.
 use Rattle.std.proofs.Common.{◌≡◌, ◌+◌, ◌-◌, ◌*◌, ◌≤◌, ◌<◌, ◌^◌, ℕ, zero, suc, true, false, List, [], ◌∷◌, ◌++◌, length, Option, Some, None, refl, sym, ap, ◌∙◌, arith, subst, append_assoc, append-nil, length-append}
-use Rattle.scope_expr.specs.declared.agg.AggKind.{AggKind}
-use Rattle.scope_expr.specs.declared.agg.AggKind.TheVariants.{Count}
-use Rattle.scope_expr.specs.declared.op.PairOp.{PairOp}
-use Rattle.scope_expr.specs.declared.raw.RawExpr.{RawExpr}
-use Rattle.scope_expr.specs.declared.raw.RawExpr.TheVariants as raw
-use Rattle.scope_expr.specs.declared.raw.RawRef.{RawRef}
-use Rattle.expression_syntax.specs.declared.raw_agg.RawAgg.{RawAgg}
+use Rattle.script_trees.specs.declared.agg.AggKind.{AggKind}
+use Rattle.script_trees.specs.declared.agg.AggKind.TheVariants.{Count}
+use Rattle.script_trees.specs.declared.op.PairOp.{PairOp}
+use Rattle.script_trees.specs.declared.raw.RawExpr.{RawExpr}
+use Rattle.script_trees.specs.declared.raw.RawExpr.TheVariants as raw
+use Rattle.script_trees.specs.declared.raw.RawRef.{RawRef}
+use Rattle.script_trees.specs.declared.raw_agg.RawAgg.{RawAgg}
 use Rattle.expression_syntax.specs.declared.symbol.Symbol.TheVariants as mark
 use Rattle.expression_syntax.specs.declared.level.Level.{Level}
 use Rattle.expression_syntax.specs.declared.level.Level.TheVariants as level

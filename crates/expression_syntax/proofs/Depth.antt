@@ -1,6 +1,6 @@
 -- Reading one step deeper, and one operand further.
 use Rattle.std.proofs.Common.{◌≡◌, ◌+◌, ◌-◌, ◌<◌, ℕ, zero, suc, refl, arith, Some, None}
-use Rattle.scope_expr.specs.declared.raw.RawExpr.{RawExpr}
+use Rattle.script_trees.specs.declared.raw.RawExpr.{RawExpr}
 use Rattle.expression_syntax.specs.declared.level.Level.{Level}
 use Rattle.expression_syntax.specs.declared.level.Place.{Place}
 use Rattle.expression_syntax.specs.Reading.{Cursor, Parser, and_then}

@@ -2,7 +2,7 @@
 -- parts of what is read exactly are read exactly.
 use Rattle.std.proofs.Common.{◌≡◌, ◌≤◌, ℕ, zero, suc, Bool, true, false, List, [], ◌∷◌, ◌++◌, length, Option, Some, None, refl, sym, ap, ◌∙◌, arith, subst, append_assoc, append-nil, length-append, if◌then◌else◌}
 use denote.Enum.Bare.{true_same}
-use Rattle.expression_syntax.specs.declared.raw_agg.RawAgg.{RawAgg}
+use Rattle.script_trees.specs.declared.raw_agg.RawAgg.{RawAgg}
 use Rattle.expression_syntax.specs.declared.keyword.Keyword.{Keyword}
 use Rattle.expression_syntax.specs.declared.symbol.Symbol.{Symbol}
 use Rattle.expression_syntax.specs.contracts.symbol.Symbol as of_symbol

@@ -2,9 +2,9 @@
 use Rattle.std.proofs.Common.{◌≡◌, ◌+◌, ◌-◌, ◌≤◌, ◌<◌, ◌^◌, ℕ, zero, suc, Bool, true, false, List, [], ◌∷◌, ◌++◌, length, take, drop, None, min, refl, sym, ap, ◌∙◌, arith, subst, append_assoc, append-nil, length-append, if◌then◌else◌, nat_le}
 use Rattle.std.proofs.lemmas.List.{take-append-drop, length-take}
 use Rattle.std.proofs.Math.Seq.{drop-append_seam, take-append-add}
-use Rattle.scope_expr.specs.declared.raw.RawExpr.{RawExpr}
-use Rattle.scope_expr.specs.declared.raw.RawRef.{RawRef}
-use Rattle.expression_syntax.specs.declared.raw_agg.RawAgg.{RawAgg}
+use Rattle.script_trees.specs.declared.raw.RawExpr.{RawExpr}
+use Rattle.script_trees.specs.declared.raw.RawRef.{RawRef}
+use Rattle.script_trees.specs.declared.raw_agg.RawAgg.{RawAgg}
 use Rattle.expression_syntax.specs.declared.level.Level.TheVariants as level
 use Rattle.expression_syntax.specs.declared.level.Place.{Place}
 use Rattle.expression_syntax.specs.declared.level.Place.TheVariants as place

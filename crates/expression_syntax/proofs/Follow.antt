@@ -1,6 +1,6 @@
 -- What may stand behind an expression.
 use Rattle.std.proofs.Common.{ℕ, List, [], ◌∷◌, Option, Some, None}
-use Rattle.scope_expr.specs.declared.op.PairOp.{PairOp}
+use Rattle.script_trees.specs.declared.op.PairOp.{PairOp}
 use Rattle.expression_syntax.specs.declared.level.Level.{Level}
 use Rattle.expression_syntax.specs.declared.symbol.Symbol.TheVariants as mark
 use Rattle.expression_syntax.specs.Lexemes.{Lexeme, symbol}

@@ -1,11 +1,11 @@
 -- The steps of reading at lexemes that are known.
 use Rattle.std.proofs.Common.{◌≡◌, ◌≤◌, ◌<◌, ◌^◌, ◌==◌, ℕ, Bool, true, false, List, [], ◌∷◌, ◌++◌, length, Option, Some, None, refl, ap, ◌∙◌, arith, if◌then◌else◌, nat_lt}
 use Rattle.std.proofs.lemmas.Bool.{eqb-true}
-use Rattle.scope_expr.specs.declared.op.PairOp.{PairOp}
-use Rattle.scope_expr.specs.declared.raw.RawExpr.{RawExpr}
-use Rattle.scope_expr.specs.declared.raw.RawExpr.TheVariants as raw
-use Rattle.scope_expr.specs.declared.raw.RawRef.{RawRef}
-use Rattle.expression_syntax.specs.declared.raw_agg.RawAgg.{RawAgg}
+use Rattle.script_trees.specs.declared.op.PairOp.{PairOp}
+use Rattle.script_trees.specs.declared.raw.RawExpr.{RawExpr}
+use Rattle.script_trees.specs.declared.raw.RawExpr.TheVariants as raw
+use Rattle.script_trees.specs.declared.raw.RawRef.{RawRef}
+use Rattle.script_trees.specs.declared.raw_agg.RawAgg.{RawAgg}
 use Rattle.expression_syntax.specs.declared.keyword.Keyword.TheVariants as word
 use Rattle.expression_syntax.specs.declared.symbol.Symbol.TheVariants as mark
 use Rattle.expression_syntax.specs.declared.level.Level.{Level}

@@ -1,6 +1,6 @@
 -- What is read is spelled.
 use Rattle.std.proofs.Common.{◌≡◌, ℕ, Bool, true, false, List, [], ◌∷◌, ◌++◌, sym, ap, ◌∙◌, subst}
-use Rattle.scope_expr.specs.declared.raw.RawRef.{RawRef}
+use Rattle.script_trees.specs.declared.raw.RawRef.{RawRef}
 use Rattle.expression_syntax.specs.declared.symbol.Symbol.TheVariants as mark
 use Rattle.expression_syntax.specs.Lexemes.{Lexeme, keyword, symbol, name, number, text, is_symbol}
 use Rattle.expression_syntax.specs.Expressions as g

@@ -5,18 +5,18 @@ use Rattle.std.specs.Str.{bytes_eq}
 use Rattle.scope_value.specs.declared.schema.ColType.{ColType}
 use Rattle.scope_value.specs.declared.schema.ColType.TheVariants as kind
 use Rattle.scope_value.specs.declared.schema.Column.{Column}
-use Rattle.scope_expr.specs.declared.raw.RawExpr.{RawExpr}
-use Rattle.scope_expr.specs.declared.raw.RawExpr.TheVariants.{Ref}
-use Rattle.scope_expr.specs.declared.raw.RawRef.{RawRef}
-use Rattle.expression_syntax.specs.declared.call.Call.{Call}
-use Rattle.expression_syntax.specs.declared.item.Item.{Item}
-use Rattle.expression_syntax.specs.declared.item.Items.{Items}
-use Rattle.expression_syntax.specs.declared.item.Items.TheVariants.{All, Listed}
-use Rattle.expression_syntax.specs.declared.key.RawKey.{RawKey}
-use Rattle.expression_syntax.specs.declared.raw_agg.RawAgg.{RawAgg}
-use Rattle.expression_syntax.specs.declared.source.Origin.{Origin}
-use Rattle.expression_syntax.specs.declared.source.Origin.TheVariants.{Named, Stream}
-use Rattle.expression_syntax.specs.declared.source.Source.{Source}
+use Rattle.script_trees.specs.declared.raw.RawExpr.{RawExpr}
+use Rattle.script_trees.specs.declared.raw.RawExpr.TheVariants.{Ref}
+use Rattle.script_trees.specs.declared.raw.RawRef.{RawRef}
+use Rattle.script_trees.specs.declared.call.Call.{Call}
+use Rattle.script_trees.specs.declared.item.Item.{Item}
+use Rattle.script_trees.specs.declared.item.Items.{Items}
+use Rattle.script_trees.specs.declared.item.Items.TheVariants.{All, Listed}
+use Rattle.script_trees.specs.declared.key.RawKey.{RawKey}
+use Rattle.script_trees.specs.declared.raw_agg.RawAgg.{RawAgg}
+use Rattle.script_trees.specs.declared.source.Origin.{Origin}
+use Rattle.script_trees.specs.declared.source.Origin.TheVariants.{Named, Stream}
+use Rattle.script_trees.specs.declared.source.Source.{Source}
 use Rattle.expression_syntax.specs.declared.keyword.Keyword.{Keyword}
 use Rattle.expression_syntax.specs.declared.keyword.Keyword.TheVariants as word
 use Rattle.expression_syntax.specs.declared.symbol.Symbol.TheVariants as mark

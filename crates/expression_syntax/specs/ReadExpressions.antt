@@ -1,12 +1,12 @@
 -- Reading of expressions, production by production.
 use Rattle.std.specs.Prelude.{◌+◌, ◌-◌, ◌^◌, ◌==◌, ℕ, min, zero, suc, Bool, true, false, List, [], ◌∷◌, ◌++◌, length, take, drop, Option, Some, None, if◌then◌else◌, nat_lt, nat_le}
-use Rattle.scope_expr.specs.declared.agg.AggKind.{AggKind}
-use Rattle.scope_expr.specs.declared.agg.AggKind.TheVariants.{Count}
-use Rattle.scope_expr.specs.declared.op.PairOp.{PairOp}
-use Rattle.scope_expr.specs.declared.raw.RawExpr.{RawExpr}
-use Rattle.scope_expr.specs.declared.raw.RawExpr.TheVariants as raw
-use Rattle.scope_expr.specs.declared.raw.RawRef.{RawRef}
-use Rattle.expression_syntax.specs.declared.raw_agg.RawAgg.{RawAgg}
+use Rattle.script_trees.specs.declared.agg.AggKind.{AggKind}
+use Rattle.script_trees.specs.declared.agg.AggKind.TheVariants.{Count}
+use Rattle.script_trees.specs.declared.op.PairOp.{PairOp}
+use Rattle.script_trees.specs.declared.raw.RawExpr.{RawExpr}
+use Rattle.script_trees.specs.declared.raw.RawExpr.TheVariants as raw
+use Rattle.script_trees.specs.declared.raw.RawRef.{RawRef}
+use Rattle.script_trees.specs.declared.raw_agg.RawAgg.{RawAgg}
 use Rattle.expression_syntax.specs.declared.symbol.Symbol.TheVariants as mark
 use Rattle.expression_syntax.specs.declared.level.Level.{Level}
 use Rattle.expression_syntax.specs.declared.level.Level.TheVariants as level

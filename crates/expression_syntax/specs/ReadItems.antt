@@ -1,14 +1,14 @@
 -- Reading of what a SELECT lists.
 use Rattle.std.specs.Prelude.{◌==◌, ℕ, List, [], length, Some, None, if◌then◌else◌}
-use Rattle.scope_expr.specs.declared.raw.RawExpr.{RawExpr}
-use Rattle.scope_expr.specs.declared.raw.RawExpr.TheVariants.{Ref}
-use Rattle.scope_expr.specs.declared.raw.RawRef.{RawRef}
-use Rattle.expression_syntax.specs.declared.item.Item.{Item}
-use Rattle.expression_syntax.specs.declared.item.Items.{Items}
-use Rattle.expression_syntax.specs.declared.item.Items.TheVariants.{All, Listed}
+use Rattle.script_trees.specs.declared.raw.RawExpr.{RawExpr}
+use Rattle.script_trees.specs.declared.raw.RawExpr.TheVariants.{Ref}
+use Rattle.script_trees.specs.declared.raw.RawRef.{RawRef}
+use Rattle.script_trees.specs.declared.item.Item.{Item}
+use Rattle.script_trees.specs.declared.item.Items.{Items}
+use Rattle.script_trees.specs.declared.item.Items.TheVariants.{All, Listed}
 use Rattle.expression_syntax.specs.declared.keyword.Keyword.TheVariants as word
 use Rattle.expression_syntax.specs.declared.level.Place.TheVariants as place
-use Rattle.expression_syntax.specs.declared.raw_agg.RawAgg.{RawAgg}
+use Rattle.script_trees.specs.declared.raw_agg.RawAgg.{RawAgg}
 use Rattle.expression_syntax.specs.declared.symbol.Symbol.TheVariants as mark
 use Rattle.expression_syntax.specs.Lexemes.{Lexeme, is_symbol}
 use Rattle.expression_syntax.specs.Parts.{is_comma}

@@ -3,14 +3,14 @@ use Rattle.std.specs.Prelude.{ℕ, zero, suc, Bool, true, false, List, [], ◌�
 use Rattle.scope_value.specs.declared.schema.ColType.{ColType}
 use Rattle.scope_value.specs.declared.schema.ColType.TheVariants as kind
 use Rattle.scope_value.specs.declared.schema.Column.{Column}
-use Rattle.scope_expr.specs.declared.raw.RawRef.{RawRef}
-use Rattle.expression_syntax.specs.declared.call.Call.{Call}
-use Rattle.expression_syntax.specs.declared.key.RawKey.{RawKey}
+use Rattle.script_trees.specs.declared.raw.RawRef.{RawRef}
+use Rattle.script_trees.specs.declared.call.Call.{Call}
+use Rattle.script_trees.specs.declared.key.RawKey.{RawKey}
 use Rattle.expression_syntax.specs.declared.keyword.Keyword.{Keyword}
 use Rattle.expression_syntax.specs.declared.keyword.Keyword.TheVariants as word
-use Rattle.expression_syntax.specs.declared.source.Origin.{Origin}
-use Rattle.expression_syntax.specs.declared.source.Origin.TheVariants.{Named, Stream}
-use Rattle.expression_syntax.specs.declared.source.Source.{Source}
+use Rattle.script_trees.specs.declared.source.Origin.{Origin}
+use Rattle.script_trees.specs.declared.source.Origin.TheVariants.{Named, Stream}
+use Rattle.script_trees.specs.declared.source.Source.{Source}
 use Rattle.expression_syntax.specs.declared.symbol.Symbol.TheVariants as mark
 use Rattle.expression_syntax.specs.Lexemes.{Lexeme, symbol, name, number, text, is_keyword, is_symbol}
 use Rattle.expression_syntax.specs.Parts.{is_comma, type_word}

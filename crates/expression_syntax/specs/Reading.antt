@@ -1,7 +1,7 @@
 -- Reading as a function: what each method of the parser answers. The grammar doesn't rest on it; that it answers by
 -- the grammar is proved.
 use Rattle.std.specs.Prelude.{◌≡◌, ℕ, Bool, true, false, List, [], ◌∷◌, drop, Option, Some, None, Result, Ok, Err, if◌then◌else◌}
-use Rattle.expression_syntax.specs.declared.raw_agg.RawAgg.{RawAgg}
+use Rattle.script_trees.specs.declared.raw_agg.RawAgg.{RawAgg}
 use Rattle.expression_syntax.specs.declared.refusal.Refusal.{Refusal}
 use Rattle.expression_syntax.specs.declared.refusal.Refusal.TheVariants.{Memory, Grammar}
 use Rattle.expression_syntax.specs.Lexemes.{Lexeme, name}

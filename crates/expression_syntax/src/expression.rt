@@ -10,12 +10,11 @@ ghost use Rattle.expression_syntax.specs.ReadExpressions as spec;
 use crate::keyword::Keyword;
 use crate::level::{Level, Place};
 use crate::parser::{Parser, beside};
-use crate::raw_agg::RawAgg;
 use crate::refusal::Refusal;
 use crate::symbol::Symbol;
 use crate::terminal::Terminal;
-use scope_expr::{AggKind, PairOp, RawExpr, RawRef};
 use scope_value::{Cell, Value};
+use script_trees::{AggKind, PairOp, RawAgg, RawExpr, RawRef};
 use sqlite_items::Boxed;
 use std::alloc::{AllocError, Global};
 

@@ -7,15 +7,14 @@ ghost use Rattle.expression_syntax.specs.Reading.{Reads};
 ghost use Rattle.expression_syntax.specs.ReadParts as spec;
 ghost use Rattle.expression_syntax.specs.Parts as grammar;
 
-use crate::call::Call;
 use crate::keyword::Keyword;
 use crate::list::Element;
 use crate::parser::{Parser, is_keyword};
 use crate::refusal::Refusal;
-use crate::source::{Origin, Source};
 use crate::symbol::Symbol;
 use crate::terminal::Terminal;
 use scope_value::{Cell, ColType, Column};
+use script_trees::{Call, Origin, Source};
 use sqlite_items::Items;
 
 /// Whether a terminal is a comma.

@@ -5,16 +5,14 @@ ghost use Rattle.expression_syntax.specs.Reading.{Reads};
 ghost use Rattle.expression_syntax.specs.ReadItems as spec;
 
 use crate::input::is_comma;
-use crate::item::{Item, Items};
 use crate::keyword::Keyword;
 use crate::level::Place;
 use crate::list::Element;
 use crate::parser::Parser;
-use crate::raw_agg::RawAgg;
 use crate::refusal::Refusal;
 use crate::symbol::Symbol;
 use crate::terminal::Terminal;
-use scope_expr::RawExpr;
+use script_trees::{Item, Items, RawAgg, RawExpr};
 use sqlite_items::Items as Sequence;
 
 impl Element for Item {

@@ -7,11 +7,11 @@ ghost use Rattle.expression_syntax.specs.Reading as spec;
 ghost use Rattle.expression_syntax.specs.Reading.{Reads};
 
 use crate::keyword::Keyword;
-use crate::raw_agg::RawAgg;
 use crate::refusal::Refusal;
 use crate::symbol::Symbol;
 use crate::terminal::Terminal;
 use scope_value::Cell;
+use script_trees::RawAgg;
 use sqlite_items::Items;
 use std::alloc::Global;
 use std::marker::Model;
@@ -28,7 +28,7 @@ impl<'a> Model for Parser<'a> {
     ghost use Rattle.std.specs.Prelude.{map};
     ghost use Rattle.expression_syntax.specs.Lexemes.{lexeme_of};
     ghost use Rattle.expression_syntax.specs.Reading.{Cursor};
-    ghost use Rattle.scope_expr.specs.contracts.raw.RawExpr as e;
+    ghost use Rattle.script_trees.specs.contracts.raw.RawExpr as e;
     ghost use Rattle.std.specs.Coded.{codes};
 
     ghost Value = { Cursor };

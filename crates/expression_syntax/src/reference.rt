@@ -6,17 +6,13 @@ ghost use Rattle.expression_syntax.specs.ReadParts as spec;
 ghost use Rattle.expression_syntax.specs.Parts as grammar;
 
 use crate::input::is_comma;
-use crate::key::RawKey;
 use crate::keyword::Keyword;
 use crate::list::Element;
 use crate::parser::Parser;
 use crate::refusal::Refusal;
 use crate::symbol::Symbol;
 use crate::terminal::Terminal;
-use scope_expr::RawRef;
-
-/// Two columns that ON sets equal, in the order in which they are written.
-pub type RefPair = (RawRef, RawRef);
+use script_trees::{RawKey, RawRef, RefPair};
 
 /// Whether a terminal is AND or `&&`.
 fn is_and(terminal: &Terminal) -> bool

@@ -2,8 +2,8 @@
 use Rattle.std.specs.Prelude.{ℕ, pos, [], ◌∷◌, None}
 use Rattle.scope_value.specs.declared.value.Value.TheVariants.{Int}
 use Rattle.scope_value.specs.declared.schema.ColType.TheVariants.{Long}
-use Rattle.scope_expr.specs.declared.op.PairOp.TheVariants.{And, Eq}
-use Rattle.scope_expr.specs.declared.agg.AggKind.TheVariants.{Count}
+use Rattle.script_trees.specs.declared.op.PairOp.TheVariants.{And, Eq}
+use Rattle.script_trees.specs.declared.agg.AggKind.TheVariants.{Count}
 use Rattle.scope_expr.specs.declared.expr.Expr.{Expr}
 use Rattle.scope_expr.specs.declared.expr.Expr.TheVariants.{Literal, Col, Neg, Pair}
 use Rattle.logical_dag.specs.declared.args.GroupArgs.{GroupArgs}

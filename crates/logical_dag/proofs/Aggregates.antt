@@ -13,8 +13,8 @@ use Rattle.scope_value.specs.declared.value.Value.TheVariants as value
 use Rattle.scope_value.specs.Order.{value_cmp, value_cmp_total, value_cmp-Equal, number}
 use Rattle.scope_value.specs.Keys.{column, directed}
 use Rattle.scope_value.specs.Sorted.{sorted, insert_by}
-use Rattle.scope_expr.specs.declared.agg.AggKind.{AggKind}
-use Rattle.scope_expr.specs.declared.agg.AggKind.TheVariants.{Count, CountIf, Sum, Min, Max}
+use Rattle.script_trees.specs.declared.agg.AggKind.{AggKind}
+use Rattle.script_trees.specs.declared.agg.AggKind.TheVariants.{Count, CountIf, Sum, Min, Max}
 use Rattle.scope_expr.specs.Value.{is_true}
 use Rattle.logical_dag.specs.Rows.{is_present, total, summed, first_in, exact, together}
 use Rattle.logical_dag.specs.First.{first_of}

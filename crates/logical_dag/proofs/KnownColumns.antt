@@ -8,7 +8,7 @@ use Rattle.std.proofs.lemmas.List.Elements.{All-contains}
 use Rattle.col_sets.specs.Sets.{has, columns_where, union, rank, IsColumnSet}
 use Rattle.col_sets.specs.Columns.{inside, has-filter, columns_where-set, has_below, has_union}
 use Rattle.col_sets.specs.Tests.{both, or_left, or_right, to_test}
-use Rattle.scope_expr.specs.declared.op.PairOp.TheVariants.{And, Eq}
+use Rattle.script_trees.specs.declared.op.PairOp.TheVariants.{And, Eq}
 use Rattle.scope_expr.specs.declared.expr.Expr.{Expr, end_of-Expr, more_of-Expr}
 use Rattle.scope_expr.specs.declared.expr.Expr.TheVariants.{Literal, Col, Neg', Not', Pair'}
 use Rattle.fd_closure.specs.declared.facts.Facts.{Facts}

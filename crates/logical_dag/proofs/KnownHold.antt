@@ -21,7 +21,7 @@ use Rattle.structural_props.specs.Stand.{in_filter}
 use Rattle.structural_props.specs.Rows.{value_at, key_of, IsRowOver}
 use Rattle.structural_props.specs.Agree.{agree_of}
 use Rattle.structural_props.specs.WholeRows.{whole_rows}
-use Rattle.scope_expr.specs.declared.op.PairOp.TheVariants.{And, Eq}
+use Rattle.script_trees.specs.declared.op.PairOp.TheVariants.{And, Eq}
 use Rattle.scope_expr.specs.declared.expr.Expr.{Expr, end_of-Expr, more_of-Expr}
 use Rattle.scope_expr.specs.declared.expr.Expr.TheVariants.{Literal, Col, Neg', Not', Pair'}
 use Rattle.scope_expr.specs.Value as expr

@@ -2,7 +2,7 @@
 use Rattle.std.specs.Prelude.{◌≡◌, ◌≢◌, ◌↔◌, ◌⊎◌, ◌<◌, ℕ, Bool, true, false, if◌then◌else◌, List, [], slice_get, position, nat_eq, Option, Some, None, IsSomeAnd, IsSome, Contains, Any}
 use Rattle.std.specs.Option.{option_and_then, option_map_or}
 use Rattle.col_sets.specs.Sets.{has, rank}
-use Rattle.scope_expr.specs.declared.op.PairOp.TheVariants.{And, Eq}
+use Rattle.script_trees.specs.declared.op.PairOp.TheVariants.{And, Eq}
 use Rattle.scope_expr.specs.declared.expr.Expr.{Expr, end_of-Expr, more_of-Expr}
 use Rattle.scope_expr.specs.declared.expr.Expr.TheVariants.{Literal, Col, Pair'}
 use Rattle.fd_closure.specs.declared.facts.Facts.{Facts}

@@ -12,8 +12,8 @@ use Rattle.scope_value.specs.Sorted.{sorted}
 use Rattle.col_sets.specs.declared.dir.Dir.{Dir}
 use Rattle.col_sets.specs.Sets.{has, union}
 use Rattle.structural_props.specs.Rows.{value_at, key_of, items}
-use Rattle.scope_expr.specs.declared.agg.AggKind.{AggKind}
-use Rattle.scope_expr.specs.declared.agg.AggKind.TheVariants.{Count, CountIf, Sum, Min, Max}
+use Rattle.script_trees.specs.declared.agg.AggKind.{AggKind}
+use Rattle.script_trees.specs.declared.agg.AggKind.TheVariants.{Count, CountIf, Sum, Min, Max}
 use Rattle.scope_expr.specs.declared.expr.Expr.{Expr}
 use Rattle.scope_expr.specs.Value as expr
 use Rattle.user_ops.specs.Told.{Operators, reduces_at, combines_at}

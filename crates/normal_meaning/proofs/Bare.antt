@@ -7,7 +7,7 @@ use Rattle.std.proofs.lemmas.Grind.{flat_map-append}
 use Rattle.std.proofs.lemmas.Option.{slice_get-map}
 use Rattle.std.proofs.lemmas.List.Folds.{list_all-append}
 use Rattle.col_sets.specs.Tests.{both, and_true}
-use Rattle.scope_expr.specs.declared.op.PairOp.TheVariants.{And}
+use Rattle.script_trees.specs.declared.op.PairOp.TheVariants.{And}
 use Rattle.scope_expr.specs.declared.expr.Expr.{Expr}
 use Rattle.scope_expr.specs.declared.expr.Expr.TheVariants.{Pair}
 use Rattle.logical_dag.specs.declared.args.GroupArgs.{GroupArgs}

@@ -5,7 +5,7 @@ use Rattle.col_sets.specs.Sets.{has, union, IsColumnSet}
 use Rattle.col_sets.specs.Columns.{filter-filter, columns_where-set, has_below, has_union}
 use Rattle.col_sets.specs.Tests.{both}
 use Rattle.structural_props.specs.Rows.{value_at, key_of}
-use Rattle.scope_expr.specs.declared.op.PairOp.TheVariants.{And}
+use Rattle.script_trees.specs.declared.op.PairOp.TheVariants.{And}
 use Rattle.scope_expr.specs.declared.expr.Expr.{Expr}
 use Rattle.scope_expr.specs.declared.expr.Expr.TheVariants.{Pair}
 use Rattle.scope_expr.specs.Value.{holds}

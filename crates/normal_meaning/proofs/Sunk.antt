@@ -4,7 +4,7 @@ use denote.Hole.Carrier.{hidden}
 use Rattle.col_sets.specs.Sets.{has}
 use Rattle.col_sets.specs.Columns.{within_has}
 use Rattle.col_sets.specs.Tests.{both}
-use Rattle.scope_expr.specs.declared.op.PairOp.TheVariants.{And}
+use Rattle.script_trees.specs.declared.op.PairOp.TheVariants.{And}
 use Rattle.scope_expr.specs.declared.expr.Expr.{Expr, end_of-Expr, more_of-Expr}
 use Rattle.scope_expr.specs.declared.expr.Expr.TheBlock.{shape-the_row-Expr-0, hidden-the_row-Expr-0}
 use Rattle.scope_expr.specs.declared.expr.Expr.TheVariants.{Pair, Pair'}

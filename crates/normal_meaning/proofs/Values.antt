@@ -10,7 +10,7 @@ use Rattle.scope_value.specs.Keys.{column}
 use Rattle.col_sets.specs.Sets.{rank}
 use Rattle.col_sets.specs.Tests.{both}
 use Rattle.structural_props.specs.Rows.{value_at}
-use Rattle.scope_expr.specs.declared.op.PairOp.TheVariants.{And}
+use Rattle.script_trees.specs.declared.op.PairOp.TheVariants.{And}
 use Rattle.scope_expr.specs.declared.expr.Expr.{Expr, end_of-Expr, more_of-Expr}
 use Rattle.scope_expr.specs.declared.expr.Expr.TheBlock.{shape-the_row-Expr-0, hidden-the_row-Expr-0}
 use Rattle.scope_expr.specs.declared.expr.Expr.TheVariants.{Literal, Col, Neg', Not', Pair, Pair'}

@@ -2,8 +2,8 @@
 use Rattle.std.specs.Prelude.{◌≡◌, ℕ, pos, true, List, [], ◌∷◌, Some, None}
 use Rattle.scope_value.specs.declared.value.Value.TheVariants.{Int, Bool as Truth}
 use Rattle.scope_value.specs.declared.schema.ColType.TheVariants.{Long}
-use Rattle.scope_expr.specs.declared.op.PairOp.TheVariants.{And, Lt, Add}
-use Rattle.scope_expr.specs.declared.agg.AggKind.TheVariants.{Count}
+use Rattle.script_trees.specs.declared.op.PairOp.TheVariants.{And, Lt, Add}
+use Rattle.script_trees.specs.declared.agg.AggKind.TheVariants.{Count}
 use Rattle.scope_expr.specs.declared.expr.Expr.{Expr}
 use Rattle.scope_expr.specs.declared.expr.Expr.TheVariants.{Literal, Col, Neg, Pair}
 use Rattle.logical_dag.specs.declared.logic_op.LogicOp.{LogicOp}

@@ -1,6 +1,6 @@
 -- Which expressions are in normal form.
 use Rattle.std.specs.Prelude.{◌≡◌, Bool, true, false, List, [], ◌∷◌}
-use Rattle.scope_expr.specs.declared.op.PairOp.TheVariants.{And}
+use Rattle.script_trees.specs.declared.op.PairOp.TheVariants.{And}
 use Rattle.scope_expr.specs.declared.expr.Expr.{Expr, end_of-Expr, more_of-Expr}
 use Rattle.scope_expr.specs.declared.expr.Expr.TheVariants.{Pair'}
 use Rattle.logical_dag.specs.declared.logic_op.LogicOp.TheVariants.{Filter}

@@ -3,7 +3,7 @@ use Rattle.std.specs.Prelude.{ℕ, Bool, true, false, ◌&&◌, ◌||◌, if◌t
 use Rattle.std.specs.Option.{option_map_or}
 use Rattle.col_sets.specs.Sets.{has, rank}
 use Rattle.scope_value.specs.declared.schema.ColType.{ColType}
-use Rattle.scope_expr.specs.declared.op.PairOp.TheVariants.{And}
+use Rattle.script_trees.specs.declared.op.PairOp.TheVariants.{And}
 use Rattle.scope_expr.specs.declared.expr.Expr.{Expr, end_of-Expr, more_of-Expr}
 use Rattle.scope_expr.specs.declared.expr.Expr.TheVariants.{Literal, Col, Neg', Not', Pair, Pair'}
 use Rattle.logical_dag.specs.declared.logic_op.LogicOp.{LogicOp}

@@ -1,7 +1,7 @@
 -- Predicates that sink stay typed.
 use Rattle.std.specs.Prelude.{◌≡◌, ℕ, true}
 use Rattle.scope_value.specs.declared.schema.ColType.{ColType}
-use Rattle.scope_expr.specs.declared.op.PairOp.TheVariants.{And}
+use Rattle.script_trees.specs.declared.op.PairOp.TheVariants.{And}
 use Rattle.scope_expr.specs.declared.expr.Expr.{Expr}
 use Rattle.scope_expr.specs.declared.expr.Expr.TheVariants.{Pair}
 use Rattle.scope_expr.specs.Kinds.{EachColumn, is_typed, kind_of, takes_truth}

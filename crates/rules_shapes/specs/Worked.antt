@@ -1,6 +1,6 @@
 -- The expressions of the examples.
 use Rattle.std.specs.Prelude.{ℕ, [], ◌∷◌, None}
-use Rattle.scope_expr.specs.declared.agg.AggKind.TheVariants.{Count}
+use Rattle.script_trees.specs.declared.agg.AggKind.TheVariants.{Count}
 use Rattle.logical_dag.specs.declared.args.GroupArgs.{GroupArgs}
 use Rattle.logical_dag.specs.declared.logic_op.LogicOp.{LogicOp}
 use Rattle.logical_dag.specs.declared.logic_op.LogicOp.TheVariants.{Scan, Join}

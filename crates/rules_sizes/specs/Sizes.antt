@@ -1,7 +1,7 @@
 -- Estimates: how many rows an expression has, and how many values each column.
 use Rattle.std.specs.Prelude.{ℕ, ◌+◌, ◌*◌, ◌/◌, min, max, nat_le, Bool, false, ◌&&◌, ◌||◌, if◌then◌else◌, List, [], ◌∷◌, ◌++◌, slice_get, Option, Some, None}
 use Rattle.col_sets.specs.Sets.{has, rank, union}
-use Rattle.scope_expr.specs.declared.op.PairOp.TheVariants.{And, Eq}
+use Rattle.script_trees.specs.declared.op.PairOp.TheVariants.{And, Eq}
 use Rattle.scope_expr.specs.declared.expr.Expr.{Expr, end_of-Expr, more_of-Expr}
 use Rattle.scope_expr.specs.declared.expr.Expr.TheVariants.{Literal, Col, Pair'}
 use Rattle.logical_dag.specs.declared.logic_op.LogicOp.{LogicOp}

@@ -4,13 +4,14 @@ use Rattle.std.specs.FinMap as map
 use Rattle.scope_outside.specs.State.{Files, StoreState, OnFiles}
 use Rattle.scope_outside.specs.Answers.{with_file}
 use Rattle.user_ops.specs.Told.{Operators, ToldExtractor}
-use Rattle.scope_app.specs.declared.pipeline.Pipeline.{Pipeline}
+use Rattle.script_pipeline.specs.declared.pipeline.Pipeline.{Pipeline}
 use Rattle.scope_app.specs.declared.plan.Plan.{Plan}
 use Rattle.scope_app.specs.declared.plan.Plan.TheVariants as plan
 use Rattle.scope_app.specs.declared.status.ScriptPlace.{ScriptPlace}
 use Rattle.scope_app.specs.declared.status.Status.{Status}
 use Rattle.scope_app.specs.declared.status.Status.TheVariants as status
-use Rattle.scope_app.specs.Plans.{IsPlanOf, output_text}
+use Rattle.scope_app.specs.Plans.{IsPlanOf}
+use Rattle.script_pipeline.specs.Results.{output_text}
 use Rattle.scope_app.specs.Run.{Given, Asks, AsksFor, CalledFor, Inputs, Reads, Runs, Writes, Refuses, IsNoText, LeavesAt, IsOfNoForm}
 use Rattle.scope_app.specs.Ends.{OnDone, OnNoMemory, OnNotText, OnNotBuilt, IfReadFault, IfNoStream, IfScriptFault, IfRowFault, IfWriteFault, OnGiven, HasWritten, FailedToRead, FoundNoStream, FailedToWrite, Stopped, IsCalledFor}
 use Rattle.scope_app.specs.Stages.{Ended, HasExtractor}

@@ -2,7 +2,7 @@
 use Rattle.std.proofs.Common.{◌≡◌, ℕ, true, false, List, Option, Some, None, refl, sym, ap, ◌∙◌, slice_get, position, ◌<◌, zero, suc, ◌∷◌, [], length, arith}
 use Rattle.std.specs.Str.{bytes_eq}
 use Rattle.user_ops.specs.Told.{Operators, ToldExtractor}
-use Rattle.scope_app.specs.declared.pipeline.Pipeline.{Pipeline}
+use Rattle.script_pipeline.specs.declared.pipeline.Pipeline.{Pipeline}
 use Rattle.scope_app.specs.Plans.{extractor_of}
 
 pub extractor_found : (ops : Operators) (p : Pipeline) (place : ℕ) (told : ToldExtractor) (name : List ℕ) → name ≡ p.call.op → Some place ≡ position (λ n. bytes_eq n name) ops.extractor_names

@@ -3,13 +3,14 @@ use Rattle.std.specs.Prelude.{◌≡◌, ℕ, ◌⊎◌, ◌==◌, Bool, false, 
 use Rattle.std.specs.FinMap as map
 use Rattle.scope_outside.specs.State.{Files}
 use Rattle.user_ops.specs.Told.{Operators, ToldExtractor}
-use Rattle.scope_syntax.specs.declared.script.Script.{Script}
-use Rattle.scope_app.specs.declared.pipeline.Pipeline.{Pipeline}
+use Rattle.script_trees.specs.declared.script.Script.{Script}
+use Rattle.script_pipeline.specs.declared.pipeline.Pipeline.{Pipeline}
 use Rattle.scope_app.specs.declared.status.ScriptPlace.{ScriptPlace}
 use Rattle.scope_app.specs.declared.status.Status.{Status}
 use Rattle.scope_app.specs.declared.status.Status.TheVariants as status
 use Rattle.scope_app.specs.ScriptText.{IsScriptText, IsFaultAt}
-use Rattle.scope_app.specs.Plans.{RunsAs, output_text}
+use Rattle.scope_app.specs.Plans.{RunsAs}
+use Rattle.script_pipeline.specs.Results.{output_text}
 
 abbrev pub begins_with_dash : List ℕ → Bool
 begins_with_dash [] = false

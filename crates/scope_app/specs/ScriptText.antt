@@ -4,7 +4,7 @@ use Rattle.scope_lexer.specs.Tokens.{IsLexed, IsFault}
 use Rattle.scope_lexer.specs.declared.token.Token.{Token}
 use Rattle.scope_syntax.specs.Statements.{SpellsScript, IsFirstFault}
 use Rattle.scope_syntax.specs.Terminals.{lexemes}
-use Rattle.scope_syntax.specs.declared.script.Script.{Script}
+use Rattle.script_trees.specs.declared.script.Script.{Script}
 use Rattle.scope_app.specs.declared.status.ScriptPlace.{ScriptPlace}
 use Rattle.scope_app.specs.declared.status.ScriptPlace.TheVariants.{Lex, Syntax}
 

@@ -1,12 +1,8 @@
 //! The top call: reads a script, runs it over a store, and says how that ended.
 #![tactic(auto)]
 
-mod distinct;
-mod output;
-mod pipeline;
 mod plan;
 mod report;
-mod select;
 mod status;
 mod top;
 

@@ -2,14 +2,14 @@
 ghost use Rattle.std.specs.Prelude.{◌≡◌, ◌<◌, ℕ, List, length, IfOk, IfSome, IfNone, Some, None, slice_get};
 ghost use Rattle.user_ops.specs.Told.{ToldExtractor};
 ghost use Rattle.scope_app.specs.Plans.{IsPlanOf, IsReadingOf, extractor_of};
-ghost use Rattle.scope_app.specs.Pipeline.{pipeline_of as spec_pipeline_of};
+ghost use Rattle.script_pipeline.specs.Pipeline.{pipeline_of as spec_pipeline_of};
 ghost use Rattle.scope_app.specs.ScriptText.{IsScriptText};
 
-use crate::pipeline::{Pipeline, pipeline_of};
 use crate::status::ScriptPlace;
 use scope_lexer::lex;
 use scope_syntax::{Script, parse};
 use scope_value::{Cell, Schema};
+use script_pipeline::{Pipeline, pipeline_of};
 use std::alloc::{AllocError, Global};
 use user_ops::{Extractor, OpSet, Tells};
 

@@ -9,13 +9,12 @@ ghost use Rattle.scope_app.specs.Run.{Asks, AsksFor, begins_with_dash, IsNoText,
 ghost use Rattle.scope_app.specs.Ends.{OnDone, OnNoMemory, OnNotText, OnNotBuilt, IfReadFault, IfNoStream, IfScriptFault, IfRowFault, IfWriteFault, OnGiven, HasWritten, FailedToRead, FoundNoStream, FailedToWrite, Stopped, IsCalledFor};
 ghost use Rattle.scope_app.specs.Stages.{Ended, HasExtractor};
 
-use crate::output::output_of;
-use crate::pipeline::Pipeline;
 use crate::plan::{Plan, plan_of};
 use crate::status::Status;
 use row_codec::RowFault;
 use scope_outside::{ReadAnswer, Store, WriteAnswer};
 use scope_value::Cell;
+use script_pipeline::{Pipeline, output_of};
 use std::alloc::{AllocError, Global};
 use user_ops::{Extractor, OpSet, Tells};
 

@@ -4,7 +4,7 @@ use denote.Hole.Carrier.{hidden}
 use Rattle.scope_value.specs.declared.value.Value.{Value}
 use Rattle.scope_value.specs.declared.value.Value.TheVariants.{Bool as Truth}
 use Rattle.scope_value.specs.declared.schema.ColType.TheVariants.{Long, Bool as Truths}
-use Rattle.scope_expr.specs.declared.op.PairOp.{PairOp}
+use Rattle.script_trees.specs.declared.op.PairOp.{PairOp}
 use Rattle.scope_expr.specs.declared.expr.Expr.{Expr}
 use Rattle.scope_expr.specs.declared.expr.Expr.TheBlock.{shape-the_row-Expr-0, hidden-the_row-Expr-0}
 use Rattle.scope_expr.specs.declared.expr.Expr.TheVariants.{Neg, Not, Pair}

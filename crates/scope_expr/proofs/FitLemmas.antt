@@ -8,8 +8,8 @@ use Rattle.scope_value.specs.declared.value.Value.{Value}
 use Rattle.scope_value.specs.declared.value.Value.TheVariants.{Int, Wide}
 use Rattle.scope_value.specs.declared.schema.ColType.TheVariants.{Long}
 use Rattle.scope_value.specs.Fits.{Fits}
-use Rattle.scope_expr.specs.declared.op.PairOp.{PairOp}
-use Rattle.scope_expr.specs.declared.op.PairOp.TheVariants.{Add, Sub, Mul, Div, Rem}
+use Rattle.script_trees.specs.declared.op.PairOp.{PairOp}
+use Rattle.script_trees.specs.declared.op.PairOp.TheVariants.{Add, Sub, Mul, Div, Rem}
 use Rattle.scope_expr.specs.declared.expr.Expr.{Expr, end_of-Expr, more_of-Expr}
 use Rattle.scope_expr.specs.declared.expr.Expr.TheVariants.{Literal, Col, Neg', Not', Pair'}
 use Rattle.scope_expr.specs.Value.{is_long, in_range, divided, calculated, or_null, computed, negated, combined, value, column_value}

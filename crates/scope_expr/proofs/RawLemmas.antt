@@ -1,11 +1,11 @@
 -- What the definitions over written expressions give, by the constructors that the code uses.
 use Rattle.std.proofs.Common.{◌≡◌, refl, ℕ, Bool, false, ◌||◌}
 use denote.Hole.Carrier.{hidden}
-use Rattle.scope_expr.specs.declared.op.PairOp.{PairOp}
-use Rattle.scope_expr.specs.declared.raw.RawRef.{RawRef}
-use Rattle.scope_expr.specs.declared.raw.RawExpr.{RawExpr}
-use Rattle.scope_expr.specs.declared.raw.RawExpr.TheBlock.{shape-the_row-RawExpr-0, hidden-the_row-RawExpr-0}
-use Rattle.scope_expr.specs.declared.raw.RawExpr.TheVariants.{Neg, Not, Pair}
+use Rattle.script_trees.specs.declared.op.PairOp.{PairOp}
+use Rattle.script_trees.specs.declared.raw.RawRef.{RawRef}
+use Rattle.script_trees.specs.declared.raw.RawExpr.{RawExpr}
+use Rattle.script_trees.specs.declared.raw.RawExpr.TheBlock.{shape-the_row-RawExpr-0, hidden-the_row-RawExpr-0}
+use Rattle.script_trees.specs.declared.raw.RawExpr.TheVariants.{Neg, Not, Pair}
 use Rattle.scope_expr.specs.declared.expr.Expr.TheVariants as expr
 use Rattle.scope_expr.specs.declared.scope.Scope.{Scope}
 use Rattle.scope_expr.specs.Names.{names_some, bound}

@@ -7,10 +7,10 @@ use Rattle.scope_expr.specs.declared.expr.Expr.{Expr}
 use Rattle.scope_expr.specs.declared.expr.Expr.TheVariants as expr
 use Rattle.scope_expr.specs.declared.expr.Expr.TheBlock.{shape-the_row-Expr-0, hidden-the_row-Expr-0}
 use denote.Hole.Carrier.{hidden}
-use Rattle.scope_expr.specs.declared.op.PairOp.{PairOp}
-use Rattle.scope_expr.specs.declared.raw.RawRef.{RawRef}
-use Rattle.scope_expr.specs.declared.raw.RawExpr.{RawExpr, end_of-RawExpr, more_of-RawExpr}
-use Rattle.scope_expr.specs.declared.raw.RawExpr.TheVariants as raw
+use Rattle.script_trees.specs.declared.op.PairOp.{PairOp}
+use Rattle.script_trees.specs.declared.raw.RawRef.{RawRef}
+use Rattle.script_trees.specs.declared.raw.RawExpr.{RawExpr, end_of-RawExpr, more_of-RawExpr}
+use Rattle.script_trees.specs.declared.raw.RawExpr.TheVariants as raw
 use Rattle.scope_expr.specs.declared.scope.Entry.{Entry}
 use Rattle.scope_expr.specs.declared.scope.Scope.{Scope}
 use Rattle.scope_expr.specs.Kinds.{is_typed, EachColumn}

@@ -4,8 +4,8 @@ use Rattle.scope_value.specs.declared.value.Value.{Value}
 use Rattle.scope_value.specs.declared.value.Value.TheVariants as value
 use Rattle.scope_value.specs.declared.schema.ColType.{ColType}
 use Rattle.scope_value.specs.declared.schema.ColType.TheVariants.{Int, Long, Text, Bool as Truth}
-use Rattle.scope_expr.specs.declared.op.PairOp.{PairOp}
-use Rattle.scope_expr.specs.declared.op.PairOp.TheVariants.{Or, And, Eq, Ne, Lt, Le, Gt, Ge}
+use Rattle.script_trees.specs.declared.op.PairOp.{PairOp}
+use Rattle.script_trees.specs.declared.op.PairOp.TheVariants.{Or, And, Eq, Ne, Lt, Le, Gt, Ge}
 use Rattle.scope_expr.specs.declared.expr.Expr.{Expr, end_of-Expr, more_of-Expr}
 use Rattle.scope_expr.specs.declared.expr.Expr.TheVariants.{Literal, Col, Neg', Not', Pair'}
 use Rattle.scope_expr.specs.Value.{is_long}

@@ -4,7 +4,7 @@ use Rattle.scope_value.specs.declared.value.Value.{Value}
 use Rattle.scope_value.specs.declared.schema.ColType.{ColType}
 use Rattle.scope_value.specs.Fits.{Fits}
 use Rattle.scope_expr.specs.declared.expr.Expr.{Expr}
-use Rattle.scope_expr.specs.declared.raw.RawExpr.{RawExpr}
+use Rattle.script_trees.specs.declared.raw.RawExpr.{RawExpr}
 use Rattle.scope_expr.specs.declared.scope.Scope.{Scope}
 use Rattle.scope_expr.specs.Kinds.{kind_of, is_typed, EachColumn}
 use Rattle.scope_expr.specs.Value.{value, column_value}

@@ -3,9 +3,9 @@ use Rattle.std.specs.Prelude.{ℕ, Bool, true, false, not, ◌&&◌, ◌||◌, i
 use Rattle.std.specs.Cmp.Lexicographic.{pointwise}
 use Rattle.scope_value.specs.declared.value.Value.TheVariants as value
 use Rattle.scope_value.specs.declared.schema.ColType.{ColType}
-use Rattle.scope_expr.specs.declared.raw.RawRef.{RawRef}
-use Rattle.scope_expr.specs.declared.raw.RawExpr.{RawExpr, end_of-RawExpr, more_of-RawExpr}
-use Rattle.scope_expr.specs.declared.raw.RawExpr.TheVariants as raw
+use Rattle.script_trees.specs.declared.raw.RawRef.{RawRef}
+use Rattle.script_trees.specs.declared.raw.RawExpr.{RawExpr, end_of-RawExpr, more_of-RawExpr}
+use Rattle.script_trees.specs.declared.raw.RawExpr.TheVariants as raw
 use Rattle.scope_expr.specs.declared.expr.Expr.{Expr}
 use Rattle.scope_expr.specs.declared.expr.Expr.TheVariants as expr
 use Rattle.scope_expr.specs.declared.scope.Entry.{Entry}

@@ -6,8 +6,8 @@ use Rattle.scope_value.specs.declared.value.Value.TheVariants.{Null, Bool as Tru
 use Rattle.scope_value.specs.Order.{value_cmp}
 use Rattle.scope_value.specs.Keys.{column}
 use Rattle.col_sets.specs.Sets.{rank}
-use Rattle.scope_expr.specs.declared.op.PairOp.{PairOp}
-use Rattle.scope_expr.specs.declared.op.PairOp.TheVariants.{Or, And, Eq, Ne, Lt, Le, Gt, Ge, Add, Sub, Mul, Div, Rem}
+use Rattle.script_trees.specs.declared.op.PairOp.{PairOp}
+use Rattle.script_trees.specs.declared.op.PairOp.TheVariants.{Or, And, Eq, Ne, Lt, Le, Gt, Ge, Add, Sub, Mul, Div, Rem}
 use Rattle.scope_expr.specs.declared.expr.Expr.{Expr, end_of-Expr, more_of-Expr}
 use Rattle.scope_expr.specs.declared.expr.Expr.TheVariants.{Literal, Col, Neg', Not', Pair'}
 

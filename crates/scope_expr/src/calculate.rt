@@ -2,10 +2,10 @@
 ghost use Rattle.std.specs.Prelude.{◌≡◌};
 ghost use Rattle.scope_expr.specs.Value.{calculated, computed, combined, negated, or_null};
 ghost use Rattle.scope_expr.specs.Value as spec;
-ghost use Rattle.scope_expr.specs.declared.op.PairOp.TheVariants.{Div, Rem};
+ghost use Rattle.script_trees.specs.declared.op.PairOp.TheVariants.{Div, Rem};
 
-use crate::op::PairOp;
 use scope_value::Value;
+use script_trees::PairOp;
 
 fn number_or_null(number: Option<i64>) -> Value
     ensures { result ≡ or_null number }

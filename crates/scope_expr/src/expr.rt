@@ -1,9 +1,9 @@
 // Expressions with their columns known by number: what the rest of the compiler and the run work with.
 ghost use Rattle.std.specs.Prelude.{◌≡◌, IfOk};
 
-use crate::op::PairOp;
 use col_sets::ColId;
 use scope_value::{ColType, Value};
+use script_trees::PairOp;
 use sqlite_items::Boxed;
 use std::alloc::{AllocError, Global};
 

@@ -5,8 +5,8 @@ ghost use Rattle.scope_expr.specs.Held.{seen};
 ghost use Rattle.scope_expr.specs.Value as spec;
 
 use crate::calculate::{combine, is_true, negate};
-use crate::op::PairOp;
 use scope_value::Value;
+use script_trees::PairOp;
 use std::alloc::AllocError;
 
 /// A value that is lent or owned.

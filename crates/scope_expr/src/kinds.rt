@@ -4,8 +4,8 @@ ghost use Rattle.scope_expr.specs.Kinds as spec;
 ghost use Rattle.scope_expr.specs.Value.{is_long};
 
 use crate::expr::Expr;
-use crate::op::PairOp;
 use scope_value::{ColType, Value};
+use script_trees::PairOp;
 
 /// The type of the expression: of a column its own, of arithmetic `long`, of comparisons and of `&&`, `||` and `!` a
 /// truth value. A literal number is a `long`, and null alone a string.

@@ -4,7 +4,6 @@
 //! [`eval`] its value on a row. A contract sees an expression as a plain tree, so that two trees are compared by `≡`.
 #![tactic(auto)]
 
-mod agg;
 mod calculate;
 mod evaluate;
 mod expr;
@@ -12,17 +11,13 @@ mod held;
 mod kinds;
 mod laws;
 mod names;
-mod op;
-mod raw;
 mod scope;
 mod typing;
 
-pub use agg::AggKind;
 pub use evaluate::{eval, holds};
 pub use expr::Expr;
 pub use kinds::{kind_of, takes_number, takes_truth};
 pub use laws::{typed_law, value_fits_law};
-pub use op::PairOp;
-pub use raw::{RawExpr, RawRef};
 pub use scope::{Entry, Scope, TypeFault};
+pub use script_trees::{AggKind, PairOp, RawExpr, RawRef};
 pub use typing::typed;

@@ -4,9 +4,9 @@ ghost use Rattle.std.specs.Option.{option_copied};
 ghost use Rattle.scope_expr.specs.Names as spec;
 
 use crate::expr::Expr;
-use crate::raw::{RawExpr, RawRef};
 use crate::scope::{Entry, Scope};
 use scope_value::{Cell, Value};
+use script_trees::{RawExpr, RawRef};
 use sqlite_items::Boxed;
 use std::alloc::{AllocError, Global};
 

@@ -5,8 +5,8 @@ ghost use Rattle.scope_expr.specs.Names as spec;
 use crate::expr::Expr;
 use crate::kinds::is_typed;
 use crate::names::{bind, has_ambiguous, has_unknown};
-use crate::raw::RawExpr;
 use crate::scope::{Scope, TypeFault};
+use script_trees::RawExpr;
 use std::alloc::{AllocError, Global};
 
 /// The expression with its columns by number, or why it has no type: `Unknown` where some column of it is in no entry,

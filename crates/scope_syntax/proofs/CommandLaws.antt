@@ -1,16 +1,16 @@
 -- PROCESS, REDUCE, COMBINE and OUTPUT are read exactly, each behind its first word.
 use Rattle.std.proofs.Common.{◌≡◌, ℕ, Bool, true, false, List, [], ◌∷◌, ◌++◌, Option, Some, None, refl, sym, ap, ◌∙◌, append_assoc}
 use Rattle.scope_value.specs.declared.schema.Column.{Column}
-use Rattle.expression_syntax.specs.declared.call.Call.{Call}
-use Rattle.scope_syntax.specs.declared.command.Command.{Command}
-use Rattle.scope_syntax.specs.declared.command.Command.TheVariants.{Extract, Select, Process, Reduce, Combine, Output}
-use Rattle.expression_syntax.specs.declared.key.RawKey.{RawKey}
+use Rattle.script_trees.specs.declared.call.Call.{Call}
+use Rattle.script_trees.specs.declared.command.Command.{Command}
+use Rattle.script_trees.specs.declared.command.Command.TheVariants.{Extract, Select, Process, Reduce, Combine, Output}
+use Rattle.script_trees.specs.declared.key.RawKey.{RawKey}
 use Rattle.expression_syntax.specs.declared.keyword.Keyword.{Keyword}
 use Rattle.expression_syntax.specs.declared.keyword.Keyword.TheVariants as word
-use Rattle.expression_syntax.specs.declared.raw_agg.RawAgg.{RawAgg}
-use Rattle.expression_syntax.specs.declared.source.Origin.{Origin}
-use Rattle.expression_syntax.specs.declared.source.Origin.TheVariants.{Named, Stream}
-use Rattle.expression_syntax.specs.declared.source.Source.{Source}
+use Rattle.script_trees.specs.declared.raw_agg.RawAgg.{RawAgg}
+use Rattle.script_trees.specs.declared.source.Origin.{Origin}
+use Rattle.script_trees.specs.declared.source.Origin.TheVariants.{Named, Stream}
+use Rattle.script_trees.specs.declared.source.Source.{Source}
 use Rattle.expression_syntax.specs.Lexemes.{Lexeme, keyword, symbol, name, number, text, is_keyword}
 use Rattle.expression_syntax.specs.Parts.{SpellsAfter, SpellsKeys, SpellsName, SpellsOptional, SpellsOrigin, SpellsSource, is_and, is_comma}
 use Rattle.scope_syntax.specs.Statements.{SpellsCommand, SpellsInput, SpellsPresort, SpellsProduct}

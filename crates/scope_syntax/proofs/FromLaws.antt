@@ -1,12 +1,12 @@
 -- The clauses of SELECT behind its items are read exactly.
 use Rattle.std.proofs.Common.{◌≡◌, ◌≤◌, ℕ, pos, negsuc, zero, suc, Bool, true, false, List, [], ◌∷◌, ◌++◌, length, Option, Some, None, ◌⊎◌, inl, inr, refl, sym, ap, ◌∙◌, arith, subst, append_assoc, append-nil, length-append, if◌then◌else◌}
-use Rattle.scope_expr.specs.declared.raw.RawExpr.{RawExpr}
+use Rattle.script_trees.specs.declared.raw.RawExpr.{RawExpr}
 use Rattle.expression_syntax.specs.declared.keyword.Keyword.{Keyword}
 use Rattle.expression_syntax.specs.declared.keyword.Keyword.TheVariants as word
 use Rattle.expression_syntax.specs.declared.level.Level.TheVariants as level
 use Rattle.expression_syntax.specs.declared.level.Place.TheVariants as place
-use Rattle.expression_syntax.specs.declared.raw_agg.RawAgg.{RawAgg}
-use Rattle.scope_syntax.specs.declared.select.Joined.{Joined}
+use Rattle.script_trees.specs.declared.raw_agg.RawAgg.{RawAgg}
+use Rattle.script_trees.specs.declared.select.Joined.{Joined}
 use Rattle.expression_syntax.specs.Lexemes.{Lexeme, keyword, symbol, name, number, text, is_keyword}
 use Rattle.expression_syntax.specs.Expressions.{Spells}
 use Rattle.expression_syntax.specs.Parts.{SpellsAfter, SpellsAfterTwo, SpellsEqualities, SpellsKeys, SpellsOptional, SpellsRefs, SpellsSource, is_and, is_comma}

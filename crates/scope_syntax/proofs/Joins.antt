@@ -1,7 +1,7 @@
 -- Reading one joined source further.
 use Rattle.std.proofs.Common.{◌≡◌, ◌+◌, ◌-◌, ◌<◌, ℕ, suc, List, refl, arith, Some}
 use Rattle.expression_syntax.specs.Reading.{Cursor, and_then}
-use Rattle.scope_syntax.specs.declared.select.Joined.{Joined}
+use Rattle.script_trees.specs.declared.select.Joined.{Joined}
 use Rattle.scope_syntax.specs.ReadSelect.{join_word, joins, next_join}
 
 pub joins_none : (turns i : ℕ) (js : List Joined) (c : Cursor) → turns < i + 1 → joins (turns - i) js c ≡ Some (js, c)

@@ -6,7 +6,7 @@ use Rattle.expression_syntax.specs.declared.terminal.Terminal.{Terminal}
 use Rattle.expression_syntax.specs.Lexemes.{Lexeme, lexeme_of}
 use Rattle.scope_syntax.specs.Statements.{IsFirstFault, is_end, pieces}
 use Rattle.expression_syntax.specs.declared.refusal.Refusal.TheVariants.{Grammar}
-use Rattle.scope_syntax.specs.declared.script.Statement.{Statement}
+use Rattle.script_trees.specs.declared.script.Statement.{Statement}
 use Rattle.scope_syntax.specs.ReadScripts.{Added, ReadSoFar, Refused}
 use Rattle.scope_syntax.proofs.ScriptLaws.{first_fault, one_piece, pieces_cut, pieces_last, so_far_few, with_piece}
 

@@ -1,8 +1,8 @@
 -- Scripts are read exactly, piece by piece.
 use Rattle.std.proofs.Common.{◌≡◌, ◌+◌, ◌≤◌, ◌<◌, ◌^◌, ℕ, suc, Bool, true, false, List, [], ◌∷◌, ◌++◌, length, filter, None, refl, sym, ap, ◌∙◌, arith, subst, append_assoc, append-nil, length-append, if◌then◌else◌}
 use Rattle.std.specs.List.{onto_first, slice_split}
-use Rattle.scope_syntax.specs.declared.script.Script.{Script}
-use Rattle.scope_syntax.specs.declared.script.Statement.{Statement}
+use Rattle.script_trees.specs.declared.script.Script.{Script}
+use Rattle.script_trees.specs.declared.script.Statement.{Statement}
 use Rattle.expression_syntax.specs.Lexemes.{Lexeme}
 use Rattle.scope_syntax.specs.Statements.{IsFirstFault, SpellsEach, SpellsScript, SpellsStatement, is_end, is_filled, pieces}
 use Rattle.scope_syntax.specs.ReadStatements.{read_statement}

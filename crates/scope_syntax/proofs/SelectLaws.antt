@@ -1,15 +1,15 @@
 -- SELECT is read exactly, at the front of a statement.
 use Rattle.std.proofs.Common.{◌≡◌, ◌≤◌, ◌^◌, ℕ, Bool, true, false, List, [], ◌∷◌, ◌++◌, length, Option, refl, sym, ap, ◌∙◌, subst, append_assoc, append-nil}
-use Rattle.scope_expr.specs.declared.raw.RawExpr.{RawExpr}
-use Rattle.scope_expr.specs.declared.raw.RawRef.{RawRef}
-use Rattle.expression_syntax.specs.declared.item.Items.{Items}
-use Rattle.expression_syntax.specs.declared.item.Items.TheVariants.{All, Listed}
-use Rattle.expression_syntax.specs.declared.key.RawKey.{RawKey}
+use Rattle.script_trees.specs.declared.raw.RawExpr.{RawExpr}
+use Rattle.script_trees.specs.declared.raw.RawRef.{RawRef}
+use Rattle.script_trees.specs.declared.item.Items.{Items}
+use Rattle.script_trees.specs.declared.item.Items.TheVariants.{All, Listed}
+use Rattle.script_trees.specs.declared.key.RawKey.{RawKey}
 use Rattle.expression_syntax.specs.declared.keyword.Keyword.{Keyword}
 use Rattle.expression_syntax.specs.declared.keyword.Keyword.TheVariants as word
-use Rattle.expression_syntax.specs.declared.raw_agg.RawAgg.{RawAgg}
-use Rattle.scope_syntax.specs.declared.select.Joined.{Joined}
-use Rattle.scope_syntax.specs.declared.select.Select as selects
+use Rattle.script_trees.specs.declared.raw_agg.RawAgg.{RawAgg}
+use Rattle.script_trees.specs.declared.select.Joined.{Joined}
+use Rattle.script_trees.specs.declared.select.Select as selects
 use Rattle.expression_syntax.specs.declared.symbol.Symbol.TheVariants as mark
 use Rattle.expression_syntax.specs.Lexemes.{Lexeme, keyword, symbol, is_keyword}
 use Rattle.expression_syntax.specs.Parts.{SpellsAfter, SpellsAfterTwo, SpellsItems, SpellsKeys, SpellsOptional, SpellsRefs}

@@ -1,15 +1,15 @@
 -- Statements are read exactly.
 use Rattle.std.proofs.Common.{◌≡◌, ◌+◌, ◌≤◌, ◌^◌, ℕ, Bool, true, false, List, [], ◌∷◌, ◌++◌, length, Option, Some, None, refl, sym, ap, ◌∙◌, arith, subst, append_assoc, append-nil, length-append, if◌then◌else◌}
-use Rattle.scope_syntax.specs.declared.command.Command.{Command}
-use Rattle.scope_syntax.specs.declared.command.Command.TheVariants.{Extract, Select, Process, Reduce, Combine, Output}
-use Rattle.expression_syntax.specs.declared.item.Item.{Item}
-use Rattle.expression_syntax.specs.declared.item.Items.{Items}
-use Rattle.expression_syntax.specs.declared.item.Items.TheVariants.{All, Listed}
+use Rattle.script_trees.specs.declared.command.Command.{Command}
+use Rattle.script_trees.specs.declared.command.Command.TheVariants.{Extract, Select, Process, Reduce, Combine, Output}
+use Rattle.script_trees.specs.declared.item.Item.{Item}
+use Rattle.script_trees.specs.declared.item.Items.{Items}
+use Rattle.script_trees.specs.declared.item.Items.TheVariants.{All, Listed}
 use Rattle.expression_syntax.specs.declared.keyword.Keyword.{Keyword}
 use Rattle.expression_syntax.specs.declared.keyword.Keyword.TheVariants as word
-use Rattle.expression_syntax.specs.declared.raw_agg.RawAgg.{RawAgg}
-use Rattle.scope_syntax.specs.declared.script.Statement.{Statement}
-use Rattle.scope_syntax.specs.declared.select.Select as selects
+use Rattle.script_trees.specs.declared.raw_agg.RawAgg.{RawAgg}
+use Rattle.script_trees.specs.declared.script.Statement.{Statement}
+use Rattle.script_trees.specs.declared.select.Select as selects
 use Rattle.expression_syntax.specs.declared.symbol.Symbol.TheVariants as mark
 use Rattle.expression_syntax.specs.Lexemes.{Lexeme, keyword, symbol, name, number, text, is_keyword, is_symbol}
 use Rattle.expression_syntax.specs.Parts as parts

@@ -1,12 +1,12 @@
 -- Reading of the commands besides SELECT, each behind its first word.
 use Rattle.std.specs.Prelude.{List, Option}
 use Rattle.scope_value.specs.declared.schema.Column.{Column}
-use Rattle.expression_syntax.specs.declared.call.Call.{Call}
-use Rattle.scope_syntax.specs.declared.command.Command.{Command}
-use Rattle.scope_syntax.specs.declared.command.Command.TheVariants.{Process, Reduce, Combine, Output}
-use Rattle.expression_syntax.specs.declared.key.RawKey.{RawKey}
+use Rattle.script_trees.specs.declared.call.Call.{Call}
+use Rattle.script_trees.specs.declared.command.Command.{Command}
+use Rattle.script_trees.specs.declared.command.Command.TheVariants.{Process, Reduce, Combine, Output}
+use Rattle.script_trees.specs.declared.key.RawKey.{RawKey}
 use Rattle.expression_syntax.specs.declared.keyword.Keyword.TheVariants as word
-use Rattle.expression_syntax.specs.declared.source.Source.{Source}
+use Rattle.script_trees.specs.declared.source.Source.{Source}
 use Rattle.expression_syntax.specs.Parts.{is_and, is_comma}
 use Rattle.expression_syntax.specs.Reading.{Parser, ◌>>=◌, ◌>>◌, pure, take_name}
 use Rattle.expression_syntax.specs.ReadParts.{begins_source, call, column, equality, expect_word, is_name, key, list, optional, reference, source, take_text, told}

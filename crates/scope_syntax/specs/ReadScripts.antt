@@ -2,7 +2,7 @@
 use Rattle.std.specs.Prelude.{◌≡◌, ◌++◌, List, [], ◌∷◌, Some, None}
 use Rattle.expression_syntax.specs.declared.refusal.Refusal.{Refusal}
 use Rattle.expression_syntax.specs.declared.refusal.Refusal.TheVariants.{Memory, Grammar}
-use Rattle.scope_syntax.specs.declared.script.Statement.{Statement}
+use Rattle.script_trees.specs.declared.script.Statement.{Statement}
 use Rattle.expression_syntax.specs.Lexemes.{Lexeme}
 use Rattle.scope_syntax.specs.Statements.{SpellsEach, pieces}
 use Rattle.scope_syntax.specs.ReadStatements.{read_statement}

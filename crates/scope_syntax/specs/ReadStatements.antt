@@ -1,11 +1,11 @@
 -- Reading of EXTRACT and of whole statements.
 use Rattle.std.specs.Prelude.{◌≡◌, ℕ, List, [], ◌∷◌, Option, Some, None, Result, Ok, Err, if◌then◌else◌}
-use Rattle.scope_syntax.specs.declared.command.Command.{Command}
-use Rattle.scope_syntax.specs.declared.command.Command.TheVariants.{Extract, Select}
+use Rattle.script_trees.specs.declared.command.Command.{Command}
+use Rattle.script_trees.specs.declared.command.Command.TheVariants.{Extract, Select}
 use Rattle.expression_syntax.specs.declared.keyword.Keyword.TheVariants as word
 use Rattle.expression_syntax.specs.declared.refusal.Refusal.{Refusal}
 use Rattle.expression_syntax.specs.declared.refusal.Refusal.TheVariants.{Memory, Grammar}
-use Rattle.scope_syntax.specs.declared.script.Statement.{Statement}
+use Rattle.script_trees.specs.declared.script.Statement.{Statement}
 use Rattle.expression_syntax.specs.declared.symbol.Symbol.TheVariants as mark
 use Rattle.expression_syntax.specs.Lexemes.{Lexeme, keyword, name, is_symbol}
 use Rattle.expression_syntax.specs.Parts.{is_comma}

@@ -3,17 +3,17 @@
 use Rattle.std.specs.Prelude.{◌≡◌, ◌+◌, ℕ, pos, Bool, true, false, List, [], ◌∷◌, ◌++◌, length, filter, Option, Some, None, ◌⊎◌}
 use Rattle.std.specs.List.{slice_split}
 use Rattle.scope_value.specs.declared.schema.Column.{Column}
-use Rattle.scope_expr.specs.declared.raw.RawExpr.{RawExpr}
-use Rattle.scope_expr.specs.declared.raw.RawRef.{RawRef}
-use Rattle.expression_syntax.specs.declared.call.Call.{Call}
-use Rattle.scope_syntax.specs.declared.command.Command.{Command}
-use Rattle.scope_syntax.specs.declared.command.Command.TheVariants.{Extract, Select, Process, Reduce, Combine, Output}
-use Rattle.expression_syntax.specs.declared.key.RawKey.{RawKey}
-use Rattle.scope_syntax.specs.declared.script.Script.{Script}
-use Rattle.scope_syntax.specs.declared.script.Statement.{Statement}
-use Rattle.scope_syntax.specs.declared.select.Joined.{Joined}
-use Rattle.scope_syntax.specs.declared.select.Select as selects
-use Rattle.expression_syntax.specs.declared.source.Source.{Source}
+use Rattle.script_trees.specs.declared.raw.RawExpr.{RawExpr}
+use Rattle.script_trees.specs.declared.raw.RawRef.{RawRef}
+use Rattle.script_trees.specs.declared.call.Call.{Call}
+use Rattle.script_trees.specs.declared.command.Command.{Command}
+use Rattle.script_trees.specs.declared.command.Command.TheVariants.{Extract, Select, Process, Reduce, Combine, Output}
+use Rattle.script_trees.specs.declared.key.RawKey.{RawKey}
+use Rattle.script_trees.specs.declared.script.Script.{Script}
+use Rattle.script_trees.specs.declared.script.Statement.{Statement}
+use Rattle.script_trees.specs.declared.select.Joined.{Joined}
+use Rattle.script_trees.specs.declared.select.Select as selects
+use Rattle.script_trees.specs.declared.source.Source.{Source}
 use Rattle.expression_syntax.specs.declared.keyword.Keyword.TheVariants as word
 use Rattle.expression_syntax.specs.declared.symbol.Symbol.TheVariants as mark
 use Rattle.expression_syntax.specs.declared.level.Place.TheVariants as place

@@ -5,9 +5,9 @@ ghost use Rattle.expression_syntax.specs.Reading.{Reads};
 ghost use Rattle.scope_syntax.specs.ReadCommands as spec;
 ghost use Rattle.expression_syntax.specs.ReadParts as parts;
 
-use crate::command::Command;
-use expression_syntax::{Call, Keyword, Parser, RawKey, Refusal, Source, beside};
+use expression_syntax::{Keyword, Parser, Refusal, beside};
 use scope_value::{Cell, Column};
+use script_trees::{Call, Command, RawKey, Source};
 use sqlite_items::Items;
 
 /// USING and PRODUCE: what a command applies, and the columns that it makes.

@@ -1,7 +1,7 @@
 // What holds of every text, for the proofs above. The function does nothing when it runs.
 ghost use Rattle.std.specs.Prelude.{◌≡◌, ◌≤◌, ◌^◌, List, length, ℕ};
-ghost use Rattle.scope_syntax.specs.declared.script.Script.{Script};
-ghost use Rattle.scope_syntax.specs.declared.script.Statement.{Statement};
+ghost use Rattle.script_trees.specs.declared.script.Script.{Script};
+ghost use Rattle.script_trees.specs.declared.script.Statement.{Statement};
 ghost use Rattle.expression_syntax.specs.Lexemes.{Lexeme};
 ghost use Rattle.scope_syntax.specs.Statements.{IsFirstFault, SpellsScript, SpellsStatement};
 

@@ -6,10 +6,10 @@ ghost use Rattle.expression_syntax.specs.Terminals.{lexemes};
 
 use crate::fault::SyntaxFault;
 use crate::pieces::script_of;
-use crate::script::Script;
 use expression_syntax::{strings, terminals_of};
 use scope_lexer::Token;
 use scope_lexer::laws::tokens_stand;
+use script_trees::Script;
 use std::alloc::{AllocError, Global};
 
 /// The script that the tokens of a text spell. Where they spell none, the first statement outside the grammar is named:

@@ -7,9 +7,9 @@ ghost use Rattle.scope_syntax.specs.Statements as grammar;
 ghost use Rattle.scope_syntax.specs.Statements.{IsFirstFault, SpellsScript};
 
 use crate::fault::SyntaxFault;
-use crate::script::{Script, Statement};
 use crate::statement::statement_of;
 use expression_syntax::{Refusal, Symbol, Terminal};
+use script_trees::{Script, Statement};
 use sqlite_items::Items;
 use std::alloc::{AllocError, Global};
 

@@ -3,11 +3,8 @@ ghost use Rattle.std.specs.Prelude.{◌≡◌};
 ghost use Rattle.expression_syntax.specs.Reading.{Reads};
 ghost use Rattle.scope_syntax.specs.ReadSelect as spec;
 
-use crate::select::{Joined, Select};
-use expression_syntax::{
-    Items, Keyword, Parser, Place, RawAgg, RawKey, Refusal, Source, Terminal, beside,
-};
-use scope_expr::{RawExpr, RawRef};
+use expression_syntax::{Keyword, Parser, Place, Refusal, Terminal, beside};
+use script_trees::{Items, Joined, RawAgg, RawExpr, RawKey, RawRef, Select, Source};
 use sqlite_items::Items as Sequence;
 
 /// The number behind TOP.

@@ -5,12 +5,11 @@ ghost use Rattle.expression_syntax.specs.Reading.{Fails, Reads};
 ghost use Rattle.scope_syntax.specs.ReadStatements as spec;
 ghost use Rattle.scope_syntax.specs.Statements as grammar;
 
-use crate::command::Command;
 use crate::commands::{read_combine, read_output, read_process, read_reduce};
-use crate::script::Statement;
 use crate::selecting::read_select;
 use expression_syntax::{Keyword, Parser, Refusal, Symbol, Terminal, beside};
 use scope_value::Cell;
+use script_trees::{Command, Statement};
 use std::alloc::Global;
 
 /// Whether a command can have a name.

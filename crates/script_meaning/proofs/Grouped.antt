@@ -9,7 +9,7 @@ use Rattle.scope_value.specs.declared.value.Value.{Value}
 use Rattle.scope_value.specs.Order.{row_cmp}
 use Rattle.col_sets.specs.Sets.{has, union}
 use Rattle.structural_props.specs.Rows.{value_at}
-use Rattle.scope_expr.specs.declared.agg.AggKind.{AggKind}
+use Rattle.script_trees.specs.declared.agg.AggKind.{AggKind}
 use Rattle.scope_expr.specs.declared.expr.Expr.{Expr}
 use Rattle.logical_dag.specs.declared.agg.Agg.{Agg}
 use Rattle.logical_dag.specs.Rows.{Row, Bag, row_over, distinct, with_key, exact, fitted, whole_value, agg_at, group_row, group_keys, grouped}

@@ -7,7 +7,7 @@ use denote.Hole.Carrier.{hidden}
 use Rattle.col_sets.specs.declared.dir.Dir.{Dir}
 use Rattle.col_sets.specs.Sets.{has, within, IsColumnSet}
 use Rattle.col_sets.specs.Tests.{and_true, or_left, or_right, to_test}
-use Rattle.scope_expr.specs.declared.agg.AggKind.{AggKind}
+use Rattle.script_trees.specs.declared.agg.AggKind.{AggKind}
 use Rattle.scope_expr.specs.declared.expr.Expr.{Expr, end_of-Expr, more_of-Expr}
 use Rattle.scope_expr.specs.declared.expr.Expr.TheBlock.{shape-the_row-Expr-0, hidden-the_row-Expr-0}
 use Rattle.scope_expr.specs.declared.expr.Expr.TheVariants.{Literal, Col, Neg', Not', Pair'}

@@ -11,7 +11,7 @@ use Rattle.col_sets.specs.declared.dir.Dir.{Dir}
 use Rattle.col_sets.specs.Sets.{has, rank}
 use Rattle.col_sets.specs.Tests.{or_left, to_test}
 use Rattle.user_ops.specs.Told.{Operators, combines_at}
-use Rattle.scope_expr.specs.declared.agg.AggKind.{AggKind}
+use Rattle.script_trees.specs.declared.agg.AggKind.{AggKind}
 use Rattle.scope_expr.specs.declared.expr.Expr.{Expr}
 use Rattle.logical_dag.specs.declared.dag.ScanDecl.{ScanDecl}
 use Rattle.logical_dag.specs.declared.logic_op.LogicOp.{LogicOp}

@@ -5,8 +5,8 @@ use Rattle.scope_value.specs.declared.value.Value.{Value}
 use Rattle.scope_value.specs.declared.value.Value.TheVariants.{Int, Null}
 use Rattle.scope_value.specs.declared.schema.Column.{Column}
 use Rattle.scope_value.specs.declared.schema.ColType.TheVariants.{Long}
-use Rattle.scope_expr.specs.declared.op.PairOp.TheVariants.{Lt}
-use Rattle.scope_expr.specs.declared.agg.AggKind.TheVariants.{Count}
+use Rattle.script_trees.specs.declared.op.PairOp.TheVariants.{Lt}
+use Rattle.script_trees.specs.declared.agg.AggKind.TheVariants.{Count}
 use Rattle.scope_expr.specs.declared.expr.Expr.{Expr}
 use Rattle.scope_expr.specs.declared.expr.Expr.TheVariants.{Literal, Col, Pair}
 use Rattle.logical_dag.specs.declared.dag.ScanDecl.{ScanDecl}

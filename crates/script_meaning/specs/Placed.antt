@@ -1,7 +1,7 @@
 -- Which scripts name what is there: the places of columns, and the statements whose results they read.
 use Rattle.std.specs.Prelude.{◌<◌, ℕ, List, [], ◌∷◌, ◌++◌, length, Option, Some, None, IsSomeAnd}
 use Rattle.col_sets.specs.declared.dir.Dir.{Dir}
-use Rattle.scope_expr.specs.declared.agg.AggKind.{AggKind}
+use Rattle.script_trees.specs.declared.agg.AggKind.{AggKind}
 use Rattle.scope_expr.specs.declared.expr.Expr.{Expr}
 use Rattle.scope_expr.specs.Kinds.{EachColumn}
 use Rattle.script_meaning.specs.Script.{Source, from_result, from_stream, Joined, Beside, inners, outer, Grouping, Query, Command, extract, select, process, reduce, combine, output, Statement, input_at}

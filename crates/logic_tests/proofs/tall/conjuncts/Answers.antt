@@ -1,5 +1,5 @@
 use Rattle.std.proofs.Common.{sym, subst}
-use Rattle.scope_expr.specs.declared.op.PairOp.TheVariants.{And}
+use Rattle.script_trees.specs.declared.op.PairOp.TheVariants.{And}
 use Rattle.logical_dag.specs.Formed.{IsOver}
 use Rattle.logic_tests.specs.Tall.{four_columns}
 use Rattle.logic_tests.proofs.TallFormed.{pair-over, made-over}

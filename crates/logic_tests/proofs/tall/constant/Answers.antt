@@ -1,5 +1,5 @@
 use Rattle.std.proofs.Common.{refl}
-use Rattle.scope_expr.specs.declared.op.PairOp.TheVariants.{Eq}
+use Rattle.script_trees.specs.declared.op.PairOp.TheVariants.{Eq}
 use Rattle.logic_tests.proofs.TallFormed.{column-over, literal-over, made-over}
 use Rattle.logic_tests.proofs.tall.constant.Goals as goal
 

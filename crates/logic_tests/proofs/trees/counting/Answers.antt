@@ -1,6 +1,6 @@
 use Rattle.std.proofs.Common.{◌≡◌, ℕ, List, [], ◌∷◌, ◌++◌, None, refl, ap, ap₂, ◌∙◌}
 use Rattle.col_sets.specs.Sets.{columns_where, with_column}
-use Rattle.scope_expr.specs.declared.agg.AggKind.TheVariants.{Count}
+use Rattle.script_trees.specs.declared.agg.AggKind.TheVariants.{Count}
 use Rattle.logical_dag.specs.declared.agg.Agg.{Agg}
 use Rattle.logical_dag.specs.declared.args.GroupArgs.{GroupArgs}
 use Rattle.logic_tests.proofs.trees.counting.Goals as goal

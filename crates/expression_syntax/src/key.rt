@@ -1,9 +1,0 @@
-// One column of ORDER BY or PRESORT.
-use scope_expr::RawRef;
-
-/// A column to sort by, and whether downwards.
-#[derive(Drop)]
-pub struct RawKey {
-    pub column: RawRef,
-    pub down: bool,
-}

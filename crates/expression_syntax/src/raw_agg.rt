@@ -1,9 +1,0 @@
-// One aggregate of a SELECT.
-use scope_expr::{AggKind, RawExpr};
-
-/// An aggregate as it is written. Only `COUNT(*)` has no argument.
-#[derive(Drop)]
-pub struct RawAgg {
-    pub kind: AggKind,
-    pub arg: Option<RawExpr>,
-}
