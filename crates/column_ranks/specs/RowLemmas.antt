@@ -14,21 +14,14 @@ use Rattle.col_sets.specs.Tests.{or_left, or_right, to_test}
 use Rattle.structural_props.specs.Rows.{value_at, key_of, items, item}
 use Rattle.scope_expr.specs.declared.expr.Expr.{Expr}
 use Rattle.scope_expr.specs.Value.{value, holds, is_true}
-use Rattle.logical_dag.specs.Rows.{Row, row_over, projected, agree_on, merged, argument}
+use Rattle.logical_trees.specs.Rows.{Row, row_over, projected, agree_on, merged, argument}
+use Rattle.logical_trees.specs.RowLemmas.{map_members}
 use Rattle.column_ranks.specs.Moved.{moved, HasRanks}
 use Rattle.column_ranks.specs.Rising.{IsRising}
 use Rattle.column_ranks.specs.RisingLemmas.{rising_from, rising_below, rising_append, rank_below, union_append}
 use Rattle.column_ranks.specs.ValueLemmas.{value_moved}
 
--- equal lists are one bag
-pub same_permuted : {X : Type 0} (xs ys : List X) → xs ≡ ys → IsPermutation xs ys
-same_permuted xs ys e = subst (IsPermutation xs) e (IsPermutation-refl xs)
-
--- maps that agree on what is in the list
-pub map_in : {X : Type 0} (f g : ℕ → X) (s : List ℕ) → ((c : ℕ) → has s c ≡ true → f c ≡ g c) → map f s ≡ map g s
-map_in f g [] h = refl
-map_in f g (c ∷ s) h = ap₂ (λ x xs. x ∷ xs) (h c (or_left _ _ (to_test c c refl))) (map_in f g s (λ d k. h d (or_right _ _ k)))
-
+-- a map of a map
 pub map_twice : {X Y Z : Type 0} (f : X → Y) (g : Y → Z) (h : X → Z) → ((x : X) → g (f x) ≡ h x) → (xs : List X) → map g (map f xs) ≡ map h xs
 map_twice f g h e [] = refl
 map_twice f g h e (x ∷ xs) = ap₂ (λ y ys. y ∷ ys) (e x) (map_twice f g h e xs)
@@ -81,14 +74,14 @@ all_values a b (c ∷ s) e r h =
     let none : nat_lt c c ≡ false = grind (arith, nat_tests) in
     let first : e + rank (c ∷ s) c ≡ e = rw none (let z : rank s c ≡ 0 = rank_below (suc c) b s c h.1 (omega arith) in omega (arith, z)) in
     ap₂ (λ x xs. x ∷ xs) (ap (λ i. column i r) first)
-    (map_in (λ d. column (e + rank (c ∷ s) d) r) (λ d. column (e + 1 + rank s d) r) s (λ d k. ap (λ i. column i r) (next d (rising_from (suc c) b s d h.1 k)))
+    (map_members (λ d. column (e + rank (c ∷ s) d) r) (λ d. column (e + 1 + rank s d) r) s (λ d k. ap (λ i. column i r) (next d (rising_from (suc c) b s d h.1 k)))
     ∙ all_values (suc c) b s (e + 1) r h.1)
   where
     next : (d : ℕ) → suc c ≤ d → e + rank (c ∷ s) d ≡ e + 1 + rank s d
     next d l = let yes : nat_lt c d ≡ true = grind (arith, nat_tests) in rw yes (omega arith)
 
 pub values_over : (a b : ℕ) (s : List ℕ) (r : Row) → IsRising a s b → map (value_at s r) s ≡ values (length s) r
-values_over a b s r h = map_in (value_at s r) (λ d. column (0 + rank s d) r) s (λ d k. ap (λ i. column i r) (zeroed (rank s d))) ∙ all_values a b s 0 r h
+values_over a b s r h = map_members (value_at s r) (λ d. column (0 + rank s d) r) s (λ d k. ap (λ i. column i r) (zeroed (rank s d))) ∙ all_values a b s 0 r h
   where
     zeroed : (n : ℕ) → n ≡ 0 + n
     zeroed n = omega arith
@@ -100,8 +93,8 @@ merged_values m b left right r s h k l =
     ap (λ cs. row_over cs pick) (union_append b left right (rising_append 0 m b left right h k) l)
     ∙ map_over_append pick left right
     ∙ ap₂ (λ x y. x ++ y)
-    (map_in pick (value_at left r) left (λ c q. rw q refl) ∙ values_over 0 m left r h)
-    (map_in pick (value_at right s) right (λ c q. rw (other c q) refl) ∙ values_over m b right s k)
+    (map_members pick (value_at left r) left (λ c q. rw q refl) ∙ values_over 0 m left r h)
+    (map_members pick (value_at right s) right (λ c q. rw (other c q) refl) ∙ values_over m b right s k)
   where
     pick : ℕ → Value
     pick c = cond (has left c) (value_at left r c) (value_at right s c)

@@ -8,9 +8,9 @@ use Rattle.script_trees.specs.declared.op.PairOp.{PairOp}
 use Rattle.scope_expr.specs.declared.expr.Expr.{Expr}
 use Rattle.scope_expr.specs.declared.expr.Expr.TheVariants.{Literal, Pair}
 use Rattle.scope_expr.specs.declared.expr.Expr.TheBlock.{shape-the_row-Expr-0, hidden-the_row-Expr-0}
-use Rattle.logical_dag.specs.declared.logic_op.LogicOp.TheVariants.{Scan, Filter}
-use Rattle.logical_dag.specs.Tree.{Expression, leaf, one}
-use Rattle.logical_dag.specs.Formed.{IsOver}
+use Rattle.logical_trees.specs.declared.logic_op.LogicOp.TheVariants.{Scan, Filter}
+use Rattle.logical_trees.specs.Tree.{Expression, leaf, one}
+use Rattle.logical_trees.specs.Formed.{IsOver}
 use Rattle.logic_tests.specs.Worked.{number_column}
 use Rattle.logic_tests.specs.Tall.{four_columns, IsOverFour}
 

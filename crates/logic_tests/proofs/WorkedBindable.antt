@@ -8,9 +8,9 @@ use Rattle.col_sets.specs.Sets.{count, columns_where}
 use Rattle.logical_dag.specs.declared.dag.Dag.{Dag}
 use Rattle.logical_dag.specs.declared.dag.Output.{Output}
 use Rattle.logical_dag.specs.declared.dag.ScanDecl.{ScanDecl}
-use Rattle.logical_dag.specs.Tree.{Expression, tree_of, columns_of}
-use Rattle.logical_dag.specs.Rows.{order_of}
-use Rattle.logical_dag.specs.Formed.{IsOrderOver}
+use Rattle.logical_trees.specs.Tree.{Expression, tree_of, columns_of}
+use Rattle.logical_trees.specs.Rows.{order_of}
+use Rattle.logical_trees.specs.Formed.{IsOrderOver}
 use Rattle.logical_dag.specs.Scripts.{shared_trees, output_trees, all_trees, scans_of, IsWritten, IsBindable}
 use Rattle.logic_tests.specs.Worked.{counted, three_joined}
 use Rattle.logic_tests.proofs.WorkedFormed.{counted-formed, joined-formed}

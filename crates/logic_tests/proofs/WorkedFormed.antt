@@ -7,9 +7,9 @@ use Rattle.col_sets.specs.Sets.{has, columns_where}
 use Rattle.col_sets.specs.Tests.{from_test}
 use denote.Hole.Carrier.{hidden}
 use Rattle.scope_expr.specs.declared.expr.Expr.TheBlock.{shape-the_row-Expr-0, hidden-the_row-Expr-0}
-use Rattle.logical_dag.specs.declared.agg.Agg.{Agg}
-use Rattle.logical_dag.specs.Formed.{IsFormed, IsGroup, IsJoin, IsArgumentOver}
-use Rattle.logical_dag.specs.Tree.{columns_of}
+use Rattle.logical_trees.specs.declared.agg.Agg.{Agg}
+use Rattle.logical_trees.specs.Formed.{IsFormed, IsGroup, IsJoin, IsArgumentOver}
+use Rattle.logical_trees.specs.Tree.{columns_of}
 use Rattle.logic_tests.specs.Worked.{linked, counting, counted, two_joined, three_joined}
 
 pub linked-formed : (results : List (List ℕ)) → IsFormed results linked

@@ -1,8 +1,8 @@
 -- Which user operators the expressions of the tests call.
 use Rattle.std.specs.Prelude.{◌<◌, length}
 use Rattle.user_ops.specs.Told.{Operators}
-use Rattle.logical_dag.specs.declared.logic_op.LogicOp.{LogicOp}
-use Rattle.logical_dag.specs.Tree.{Expression}
+use Rattle.logical_trees.specs.declared.logic_op.LogicOp.{LogicOp}
+use Rattle.logical_trees.specs.Tree.{Expression}
 use Rattle.plain_meaning.specs.Plain.{IsThere, AreThere}
 
 -- there are a processor, a reducer and a combiner

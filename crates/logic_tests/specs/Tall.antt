@@ -1,7 +1,7 @@
 -- What the tall expressions of the tests keep as they grow.
 use Rattle.std.specs.Prelude.{◌≡◌, ℕ, List, [], ◌∷◌}
-use Rattle.logical_dag.specs.Tree.{Expression, columns_of}
-use Rattle.logical_dag.specs.Formed.{IsFormed}
+use Rattle.logical_trees.specs.Tree.{Expression, columns_of}
+use Rattle.logical_trees.specs.Formed.{IsFormed}
 
 -- the columns 0 to 3
 abbrev pub four_columns : List ℕ

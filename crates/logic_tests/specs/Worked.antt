@@ -6,10 +6,10 @@ use Rattle.script_trees.specs.declared.op.PairOp.TheVariants.{And, Eq}
 use Rattle.script_trees.specs.declared.agg.AggKind.TheVariants.{Count}
 use Rattle.scope_expr.specs.declared.expr.Expr.{Expr}
 use Rattle.scope_expr.specs.declared.expr.Expr.TheVariants.{Literal, Col, Neg, Pair}
-use Rattle.logical_dag.specs.declared.args.GroupArgs.{GroupArgs}
-use Rattle.logical_dag.specs.declared.logic_op.LogicOp.{LogicOp}
-use Rattle.logical_dag.specs.declared.logic_op.LogicOp.TheVariants.{Scan, Filter, Join, Group}
-use Rattle.logical_dag.specs.Tree.{Expression, leaf, one, two}
+use Rattle.logical_trees.specs.declared.args.GroupArgs.{GroupArgs}
+use Rattle.logical_trees.specs.declared.logic_op.LogicOp.{LogicOp}
+use Rattle.logical_trees.specs.declared.logic_op.LogicOp.TheVariants.{Scan, Filter, Join, Group}
+use Rattle.logical_trees.specs.Tree.{Expression, leaf, one, two}
 
 -- a column of numbers
 abbrev pub number_column : ℕ → Expr

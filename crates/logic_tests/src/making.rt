@@ -1,6 +1,6 @@
 // Parts of expressions.
 ghost use Rattle.std.specs.Prelude.{◌≡◌, [], ◌∷◌, map, IfOk};
-ghost use Rattle.logical_dag.specs.Tree.{leaf, one, two, tree_of};
+ghost use Rattle.logical_trees.specs.Tree.{leaf, one, two, tree_of};
 ghost use Rattle.logic_tests.specs.Worked as spec;
 
 use arrayvec::ArrayVec;

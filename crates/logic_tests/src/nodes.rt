@@ -1,6 +1,6 @@
 // Expressions from their leaf upwards, for the table of what they mean. Their columns are numbered from 0.
 ghost use Rattle.std.specs.Prelude.{◌≡◌, IfOk};
-ghost use Rattle.logical_dag.specs.Tree.{tree_of};
+ghost use Rattle.logical_trees.specs.Tree.{tree_of};
 ghost use Rattle.logic_tests.specs.Calling.{IsCalledFirst, AreCalledFirst};
 
 use crate::making::{beside_scan, column, number, on_pair, over, pair, scan, set_of};

@@ -2,7 +2,7 @@
 ghost use Rattle.std.specs.Prelude.{◌≡◌, [], ◌∷◌, map, flat_map, length, slice_get, None, IfOk, IsSomeAnd, All};
 ghost use Rattle.std.specs.List.{range_with_len};
 ghost use Rattle.col_sets.specs.Sets.{count};
-ghost use Rattle.logical_dag.specs.Tree.{tree_of};
+ghost use Rattle.logical_trees.specs.Tree.{tree_of};
 ghost use Rattle.logical_dag.specs.Bounds.{AreBounded};
 ghost use Rattle.logical_dag.specs.Scripts.{scans_of, IsWritten, IsBindable};
 

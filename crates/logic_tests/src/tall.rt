@@ -1,7 +1,7 @@
 // Trees and predicates that are as deep as a script can make them, or deeper: their facts are found within the stack.
 ghost use Rattle.std.specs.Prelude.{◌≡◌, IfOk};
-ghost use Rattle.logical_dag.specs.Tree.{leaf, tree_of};
-ghost use Rattle.logical_dag.specs.Formed.{IsOver};
+ghost use Rattle.logical_trees.specs.Tree.{leaf, tree_of};
+ghost use Rattle.logical_trees.specs.Formed.{IsOver};
 ghost use Rattle.logic_tests.specs.Tall.{four_columns, IsOverFour};
 
 use crate::making::{column, number, over, pair, scan, set_of};

@@ -1,6 +1,6 @@
 // The expressions whose facts are worked out.
 ghost use Rattle.std.specs.Prelude.{◌≡◌, [], ◌∷◌, IfOk};
-ghost use Rattle.logical_dag.specs.Tree.{tree_of};
+ghost use Rattle.logical_trees.specs.Tree.{tree_of};
 ghost use Rattle.logic_tests.specs.Worked as spec;
 
 use crate::making::{beside_scan, column, number, on_pair, over, pair, scan};

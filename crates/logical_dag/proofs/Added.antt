@@ -7,18 +7,18 @@ use Rattle.col_sets.specs.Columns.{columns_where-set, columns_none, sets_same, u
 use Rattle.col_sets.specs.Tests.{both, and_true, same_tests, from_test, to_test}
 use Rattle.fd_closure.specs.declared.facts.Facts.{Facts}
 use Rattle.fd_closure.specs.Known.{by_of, equal_of}
-use Rattle.logical_dag.specs.Tree.{Expression}
-use Rattle.logical_dag.specs.Formed.{IsFormed}
+use Rattle.logical_trees.specs.Tree.{Expression}
+use Rattle.logical_trees.specs.Formed.{IsFormed}
 use Rattle.logical_dag.specs.Facts.{IsLinked, stated, IsConstant, Determines, AreEqual}
 use Rattle.logical_dag.specs.Known.{IsDependency, AreConstants, AreDependencies, AreClasses}
-use Rattle.logical_dag.specs.BlockFacts.{SomeLeaf, columns_of_all, IsInside, AreFactsOfAll}
-use Rattle.logical_dag.specs.Places.{chosen}
+use Rattle.logical_trees.specs.Blocks.{SomeLeaf, columns_of_all, chosen}
+use Rattle.logical_dag.specs.BlockFacts.{IsInside, AreFactsOfAll}
 use Rattle.logical_dag.specs.Gathered.{bits_after, IsBlank, IsOverColumns, AreAdded}
 use Rattle.logical_dag.proofs.Classes.{linked_bind, linked_same, classes_same, classes_linked, classes_chain, classes_kept}
 use Rattle.logical_dag.proofs.Constants.{constants_same, constants_chain, constants_kept}
 use Rattle.logical_dag.proofs.Dependencies.{dependencies_same, dependencies_chain, dependencies_kept}
 use Rattle.logical_dag.proofs.KnownColumns.{known_about}
-use Rattle.logical_dag.proofs.Leaves.{some_left, some_right, some_either, EachLeaf, HasColumn, formed_sets, union_none, all_columns_set, all_columns_some, some_all_columns, some_below}
+use Rattle.logical_trees.specs.LeafLemmas.{some_left, some_right, some_either, EachLeaf, HasColumn, formed_sets, union_none, all_columns_set, all_columns_some, some_all_columns, some_below}
 use Rattle.logical_dag.proofs.PairFacts.{EqualOrInside}
 
 -- ---- masks

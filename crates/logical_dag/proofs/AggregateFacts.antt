@@ -5,9 +5,9 @@ use Rattle.std.proofs.lemmas.List.Elements.{All-contains}
 use Rattle.col_sets.specs.Sets.{has, with_column}
 use Rattle.fd_closure.specs.declared.facts.Facts.{Facts}
 use Rattle.fd_closure.specs.Known.{by_of}
-use Rattle.logical_dag.specs.declared.agg.Agg.{Agg}
+use Rattle.logical_trees.specs.declared.agg.Agg.{Agg}
 use Rattle.logical_dag.specs.Known.{AreDependencies, IsDependency}
-use Rattle.logical_dag.proofs.Reading.{one_read}
+use Rattle.list_lemmas.specs.Reading.{one_read}
 use Rattle.logical_dag.proofs.Dependencies.{dependencies_same, dependencies_kept, dependencies_chain, dependencies_with}
 use Rattle.logical_dag.proofs.OneBelow.{OneBelow, one_more, one_split}
 

@@ -7,15 +7,15 @@ use Rattle.std.proofs.lemmas.Option.{slice_get_within, slice_get-map}
 use Rattle.col_sets.specs.Tests.{from_test}
 use Rattle.fd_closure.specs.declared.facts.Facts.{Facts}
 use Rattle.logical_dag.specs.declared.dag.Dag.{Dag}
-use Rattle.logical_dag.specs.declared.logical.Logical.{Logical}
-use Rattle.logical_dag.specs.Tree.{Expression, tree_of, columns_of}
-use Rattle.logical_dag.specs.Formed.{IsFormed}
+use Rattle.logical_trees.specs.declared.logical.Logical.{Logical}
+use Rattle.logical_trees.specs.Tree.{Expression, tree_of, columns_of}
+use Rattle.logical_trees.specs.Formed.{IsFormed}
 use Rattle.logical_dag.specs.Facts.{AreFactsOf}
 use Rattle.logical_dag.specs.Laws.{lent_columns}
 use Rattle.logical_dag.specs.Scripts.{shared_trees, IsWritten, IsBindable}
 use Rattle.logical_dag.specs.Places.{AreSharedFacts}
 use Rattle.logical_dag.proofs.Placed.{some_and, and_some, if_some, shared_columns}
-use Rattle.logical_dag.proofs.Reading.{read_some}
+use Rattle.list_lemmas.specs.Reading.{read_some}
 use Rattle.logical_dag.proofs.SharedFacts.{to_if}
 
 -- the first n of these are the facts of the first n trees, each by those of the earlier ones

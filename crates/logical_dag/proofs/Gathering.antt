@@ -3,15 +3,14 @@ use Rattle.std.proofs.Common.{◌≡◌, ℕ, ◌/◌, true, List, [], ◌∷◌
 use Rattle.col_sets.specs.Sets.{has}
 use Rattle.col_sets.specs.Columns.{has_below, union_has, has_union}
 use Rattle.fd_closure.specs.declared.facts.Facts.{Facts}
-use Rattle.logical_dag.specs.declared.logic_op.LogicOp.TheVariants.{Join}
-use Rattle.logical_dag.specs.Tree.{Expression, two, columns_of}
-use Rattle.logical_dag.specs.Formed.{IsFormed}
-use Rattle.logical_dag.specs.Places.{block_leaves, chosen}
-use Rattle.logical_dag.specs.BlockFacts.{columns_of_all}
+use Rattle.logical_trees.specs.declared.logic_op.LogicOp.TheVariants.{Join}
+use Rattle.logical_trees.specs.Tree.{Expression, two, columns_of}
+use Rattle.logical_trees.specs.Formed.{IsFormed}
+use Rattle.logical_trees.specs.Blocks.{block_leaves, chosen, columns_of_all}
 use Rattle.logical_dag.specs.Gathered.{bits_after, IsOverColumns, IsApartFrom, AreAdded}
-use Rattle.logical_dag.proofs.Leaves.{some_find, some_at, HasColumn, all_columns_some, chosen_in}
-use Rattle.logical_dag.proofs.Blocks.{chosen_formed, some_block}
-use Rattle.logical_dag.proofs.BlockShapes.{IsNoJoin, no_join_leaves}
+use Rattle.logical_trees.specs.LeafLemmas.{some_find, some_at, HasColumn, all_columns_some, chosen_in}
+use Rattle.logical_trees.specs.BlockLemmas.{chosen_formed, some_block}
+use Rattle.logical_trees.specs.BlockShapeLemmas.{IsNoJoin, no_join_leaves}
 use Rattle.logical_dag.proofs.Added.{chosen-append, bits_after-append, added_over, both_added}
 
 -- an expression that is no Join is its only leaf

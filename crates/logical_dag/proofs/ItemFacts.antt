@@ -15,7 +15,7 @@ use Rattle.fd_closure.specs.declared.facts.Facts.{Facts}
 use Rattle.fd_closure.specs.Known.{equal_of}
 use Rattle.logical_dag.specs.Facts.{IsLinked, stated, turned, chained, is_column, AreSameItem}
 use Rattle.logical_dag.specs.Known.{IsOwn, AreClasses, IsItem, IsItemEquated}
-use Rattle.logical_dag.proofs.KnownColumns.{has_at}
+use Rattle.logical_trees.specs.ColumnLemmas.{has_at}
 use Rattle.logical_dag.proofs.Classes.{linked_same, classes_same, classes_merged, classes_kept}
 
 -- an item is one plain column at most

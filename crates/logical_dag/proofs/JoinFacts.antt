@@ -8,86 +8,18 @@ use Rattle.col_sets.specs.Columns.{columns_where-set, sets_same, has_below, unio
 use Rattle.col_sets.specs.Tests.{same_tests}
 use Rattle.fd_closure.specs.declared.facts.Facts.{Facts}
 use Rattle.fd_closure.specs.Known.{by_of}
-use Rattle.logical_dag.specs.declared.logic_op.LogicOp.TheVariants.{Join}
-use Rattle.logical_dag.specs.Tree.{Expression, two, columns_of}
-use Rattle.logical_dag.specs.Formed.{IsFormed}
+use Rattle.logical_trees.specs.declared.logic_op.LogicOp.TheVariants.{Join}
+use Rattle.logical_trees.specs.Tree.{Expression, two, columns_of}
+use Rattle.logical_trees.specs.Formed.{IsFormed}
 use Rattle.logical_dag.specs.Facts.{IsLinked, stated, itself, turned, chained, IsConstant, Determines, AreEqual, AreFactsOf}
-use Rattle.logical_dag.specs.Places.{IsAcross, IsJoinOf, alone, both}
-use Rattle.logical_dag.specs.BlockFacts.{SomeLeaf, columns_of_all, IsInside, AreFactsOfAll}
+use Rattle.logical_trees.specs.Blocks.{IsAcross, IsJoinOf, alone, both, SomeLeaf, columns_of_all}
+use Rattle.logical_dag.specs.BlockFacts.{IsInside, AreFactsOfAll}
+use Rattle.logical_trees.specs.JoinLemmas.{IsNoneWithin, some_one, from_some, some_into, join_set, join_columns}
 use Rattle.logical_dag.proofs.Classes.{linked_bind}
 use Rattle.logical_dag.proofs.Links.{linked_within, linked_more, equal_itself, equal_turned, equal_chained}
-use Rattle.logical_dag.proofs.Leaves.{some_left, some_right, some_either, some_permuted, EachLeaf, each_left, each_right, each_permuted, HasSet, HasColumn, all_columns_set, all_columns_some, some_all_columns, AreApart, apart_left, apart_right, apart_across, apart_permuted}
-
--- no pair has both columns in one leaf
-abbrev pub IsNoneWithin : List (ℕ × ℕ) → List Expression → Type 0
-IsNoneWithin pairs leaves = (a b : ℕ) → Contains pairs (a, b) → SomeLeaf (λ t. HasColumn a t × HasColumn b t) leaves → ⊥
-
--- a leaf's list of one has no other leaf
-some_one : (P : Expression → Type 0) (t : Expression) → SomeLeaf P (t ∷ []) → P t
-some_one P t (inl h) = h
-some_one P t (inr h) = absurd h
+use Rattle.logical_trees.specs.LeafLemmas.{some_left, some_right, some_either, some_permuted, EachLeaf, each_left, each_right, each_permuted, HasSet, HasColumn, all_columns_set, all_columns_some, some_all_columns, AreApart, apart_left, apart_right, apart_across, apart_permuted}
 
 module _ (pairs : List (ℕ × ℕ)) where
-  -- ---- what a join has from its leaves
-
-  -- a property that a Join has from its sides comes from some leaf
-  pub from_some : (Q : Expression → Type 0) → ((on : _) (t u : Expression) → Q (two (Join on) t u) → Q t ⊎ Q u)
-      → (leaves : List Expression) (t : Expression) → IsJoinOf pairs leaves t → Q t → SomeLeaf Q leaves
-  from_some Q split leaves v (alone t) q = inl q
-  from_some Q split leaves v (both {before = before} {beside = beside} {op = Join on} {t = t} {u = u} j k p h) q =
-      some_permuted Q (before ++ beside) leaves p (go (from_some Q split before t j) (from_some Q split beside u k) (split on t u q))
-    where
-      go : (Q t → SomeLeaf Q before) → (Q u → SomeLeaf Q beside) → Q t ⊎ Q u → SomeLeaf Q (before ++ beside)
-      go left right (inl m) = some_left Q before beside (left m)
-      go left right (inr m) = some_right Q before beside (right m)
-  from_some Q split leaves v (both {op = op} j k p h) q = absurd h
-
-  -- and what some leaf has the join has, where a Join has it from its sides
-  pub some_into : (Q : Expression → Type 0) → ((on : _) (t u : Expression) → Q t ⊎ Q u → Q (two (Join on) t u))
-      → (leaves : List Expression) (t : Expression) → IsJoinOf pairs leaves t → SomeLeaf Q leaves → Q t
-  some_into Q join leaves v (alone t) q = some_one Q t q
-  some_into Q join leaves v (both {before = before} {beside = beside} {op = Join on} {t = t} {u = u} j k p h) q =
-      join on t u (go (some_into Q join before t j) (some_into Q join beside u k) (some_either Q before beside (some_permuted Q leaves (before ++ beside) (IsPermutation-sym _ _ p) q)))
-    where
-      go : (SomeLeaf Q before → Q t) → (SomeLeaf Q beside → Q u) → SomeLeaf Q before ⊎ SomeLeaf Q beside → Q t ⊎ Q u
-      go left right (inl m) = inl (left m)
-      go left right (inr m) = inr (right m)
-  some_into Q join leaves v (both {op = op} j k p h) q = absurd h
-
-  -- the columns of a join are a set
-  pub join_set : (leaves : List Expression) (t : Expression) → IsJoinOf pairs leaves t → EachLeaf HasSet leaves → HasSet t
-  join_set leaves v (alone t) sets = sets t (inl refl)
-  join_set leaves v (both {op = Join on} j k p h) sets = columns_where-set _
-  join_set leaves v (both {op = op} j k p h) sets = absurd h
-
-  -- they are those of the leaves
-  pub join_column_some : (leaves : List Expression) (t : Expression) → IsJoinOf pairs leaves t → (c : ℕ) → HasColumn c t → SomeLeaf (HasColumn c) leaves
-  join_column_some leaves t j c = from_some (HasColumn c) (λ on t u. union_has (columns_of t) (columns_of u) c) leaves t j
-
-  pub some_join_column : (leaves : List Expression) (t : Expression) → IsJoinOf pairs leaves t → (c : ℕ) → c < 128 → SomeLeaf (HasColumn c) leaves → HasColumn c t
-  some_join_column leaves t j c l = some_into (HasColumn c) (λ on t u. has_union (columns_of t) (columns_of u) c l) leaves t j
-
-  pub join_columns : (leaves : List Expression) (t : Expression) → IsJoinOf pairs leaves t → EachLeaf HasSet leaves → columns_of t ≡ columns_of_all leaves
-  join_columns leaves t j sets =
-      sets_same (columns_of t) (columns_of_all leaves) (join_set leaves t j sets) (all_columns_set leaves)
-      (λ c l. same_tests _ _ (λ h. some_all_columns leaves c l (join_column_some leaves t j c h)) (λ h. some_join_column leaves t j c l (all_columns_some leaves c h)))
-
-  -- a join of leaves that are formed and apart is formed
-  pub join_formed : (results : List (List ℕ)) (leaves : List Expression) (t : Expression) → IsJoinOf pairs leaves t → EachLeaf (IsFormed results) leaves → AreApart leaves → IsFormed results t
-  join_formed results leaves v (alone t) formed apart = formed t (inl refl)
-  join_formed results leaves v (both {before = before} {beside = beside} {op = Join on} {t = t} {u = u} j k p h) formed apart =
-      let all : EachLeaf (IsFormed results) (before ++ beside) = each_permuted (IsFormed results) (before ++ beside) leaves p formed in
-      let still : AreApart (before ++ beside) = apart_permuted (before ++ beside) leaves p apart in (
-        join_formed results before t j (each_left (IsFormed results) before beside all) (apart_left before beside still),
-        join_formed results beside u k (each_right (IsFormed results) before beside all) (apart_right before beside still),
-        record {
-          apart = λ c l r. apart_across before beside still c (join_column_some before t j c l) (join_column_some beside u k c r);
-          some = h.0;
-          sides = λ i d l. let a = (h.1 _).0 (All-contains_itself on.items i d l) in (a.0, a.1);
-        },
-      )
-  join_formed results leaves v (both {op = op} j k p h) formed apart = absurd h
-
   module _ (shared : List Facts) where
     -- ---- equal columns
 
@@ -113,7 +45,7 @@ module _ (pairs : List (ℕ × ℕ)) where
         let first : EachLeaf HasSet before = each_left HasSet before beside all in
         let second : EachLeaf HasSet beside = each_right HasSet before beside all in
         linked_bind (λ a b. AreEqual shared t a b ⊎ (AreEqual shared u a b ⊎ Contains on.items (a, b))) (EqualInSome leaves (union (columns_of t) (columns_of u)))
-        (each (join_set before t j first) (join_set beside u k second) (join_equal_some before t j first) (join_equal_some beside u k second)) c d e
+        (each (join_set pairs before t j first) (join_set pairs beside u k second) (join_equal_some before t j first) (join_equal_some beside u k second)) c d e
       where
         into : List ℕ
         into = union (columns_of t) (columns_of u)
@@ -187,9 +119,9 @@ module _ (pairs : List (ℕ × ℕ)) where
         → AreFactsOfAll shared pairs leaves f → AreFactsOf shared t f
     join_facts leaves t f j sets none known = record {
       columns = known.columns ∙ sym same;
-      constants = λ c l. (λ h. some_into (λ u. IsConstant shared u c) (λ on t u h. h) leaves t j ((known.constants c l).0 h), λ h. (known.constants c l).1 (from_some (λ u. IsConstant shared u c) (λ on t u h. h) leaves t j h));
-      stated = λ c l h. some_into (λ u. Determines shared u (by_of f c) c) (λ on t u h. h) leaves t j (known.stated c l h);
-      all = λ s c h. known.all s c (from_some (λ u. Determines shared u s c) (λ on t u h. h) leaves t j h);
+      constants = λ c l. (λ h. some_into pairs (λ u. IsConstant shared u c) (λ on t u h. h) leaves t j ((known.constants c l).0 h), λ h. (known.constants c l).1 (from_some pairs (λ u. IsConstant shared u c) (λ on t u h. h) leaves t j h));
+      stated = λ c l h. some_into pairs (λ u. Determines shared u (by_of f c) c) (λ on t u h. h) leaves t j (known.stated c l h);
+      all = λ s c h. known.all s c (from_some pairs (λ u. Determines shared u s c) (λ on t u h. h) leaves t j h);
       equal = λ c d l m. (
         λ h. some_join_equal leaves t j none c d (subst (λ (cols : List ℕ). IsLinked (EqualInSome leaves cols) c d) cols ((known.equal c d l m).0 h)),
         λ h. (known.equal c d l m).1 (subst (λ (cols : List ℕ). IsLinked (EqualInSome leaves cols) c d) (sym cols) (join_equal_some leaves t j sets c d h)),
@@ -197,7 +129,7 @@ module _ (pairs : List (ℕ × ℕ)) where
     }
       where
         same : columns_of t ≡ columns_of_all leaves
-        same = join_columns leaves t j sets
+        same = join_columns pairs leaves t j sets
 
         cols : f.columns ≡ columns_of t
         cols = known.columns ∙ sym same

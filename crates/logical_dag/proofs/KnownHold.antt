@@ -31,21 +31,23 @@ use Rattle.fd_closure.specs.Laws.{equal_parts}
 use Rattle.fd_closure.specs.Hold as hold
 use Rattle.fd_closure.specs.Hold.{FactsHold, OneValue, Depends, Agree}
 use Rattle.user_ops.specs.Told.{Operators}
-use Rattle.logical_dag.specs.declared.agg.Agg.{Agg}
-use Rattle.logical_dag.specs.declared.args.GroupArgs.{GroupArgs}
-use Rattle.logical_dag.specs.declared.args.TopArgs.{TopArgs}
-use Rattle.logical_dag.specs.declared.logic_op.LogicOp.{LogicOp}
-use Rattle.logical_dag.specs.declared.logic_op.LogicOp.TheVariants.{Ref, Filter, Project, Join, Group, Process, Reduce, Combine, Top, Partial, Finish, LocalTop, LastTop}
-use Rattle.logical_dag.specs.Tree.{Expression, leaf, one, two, group_columns, columns_of}
-use Rattle.logical_dag.specs.Rows.{Row, Bag, projected, agree_on, merged, joined, with_key, keys_among, in_order, first_rows, group_row, rows_of_keys, group_keys, partial_rows, whole_value, partial_value, finished_value}
-use Rattle.logical_dag.specs.Meaning.{Sources, bag_at, StandsFor}
-use Rattle.logical_dag.specs.Formed.{IsGroup, IsJoin, IsFormed}
+use Rattle.logical_trees.specs.declared.agg.Agg.{Agg}
+use Rattle.logical_trees.specs.declared.args.GroupArgs.{GroupArgs}
+use Rattle.logical_trees.specs.declared.args.TopArgs.{TopArgs}
+use Rattle.logical_trees.specs.declared.logic_op.LogicOp.{LogicOp}
+use Rattle.logical_trees.specs.declared.logic_op.LogicOp.TheVariants.{Ref, Filter, Project, Join, Group, Process, Reduce, Combine, Top, Partial, Finish, LocalTop, LastTop}
+use Rattle.logical_trees.specs.Tree.{Expression, leaf, one, two, group_columns, columns_of}
+use Rattle.logical_trees.specs.Rows.{Row, Bag, projected, agree_on, merged, joined, with_key, keys_among, in_order, first_rows, group_row, rows_of_keys, group_keys, partial_rows, whole_value, partial_value, finished_value}
+use Rattle.logical_trees.specs.Meaning.{Sources, bag_at, StandsFor}
+use Rattle.logical_trees.specs.Formed.{IsGroup, IsJoin, IsFormed}
 use Rattle.logical_dag.specs.Laws.{LentHold, HoldOf, lent_columns}
 use Rattle.logical_dag.specs.Known.{IsLentSet}
 use Rattle.logical_dag.specs.Facts.{IsLinked, stated, itself, turned, chained, IsColumnAndLiteral, AreColumns, SetsConstant, SetsEqual, is_column, is_literal, ref_name, item_name, key_name, Renamed, BothRenamed, IsRenamedSet, DependencyRenamed, IsAggregate, AreSameItem, IsConstant, Determines, AreEqual, AreFactsOf}
-use Rattle.logical_dag.proofs.RowValues.{in_list, list_in, in_permuted, in_sorted, in_first, in_map, in_flat_map, flat_map_in, in_distinct, value_over}
-use Rattle.logical_dag.proofs.GroupRows.{group_row-key}
-use Rattle.logical_dag.proofs.KnownColumns.{rank_at, columns_set, AreAbout, known_about, from_conjunct, ref_source, key_source}
+use Rattle.list_lemmas.specs.Members.{in_list, list_in, in_permuted, in_sorted, in_first, in_map, in_flat_map, flat_map_in, in_distinct}
+use Rattle.logical_trees.specs.RowLemmas.{value_over}
+use Rattle.logical_trees.specs.GroupRowLemmas.{group_row-key}
+use Rattle.logical_trees.specs.ColumnLemmas.{rank_at, columns_set}
+use Rattle.logical_dag.proofs.KnownColumns.{AreAbout, known_about, from_conjunct, ref_source, key_source}
 
 -- facts of each kind hold of rows over these columns
 pub record HoldOver (C : ℕ → Type 0) (D : List ℕ → ℕ → Type 0) (E : ℕ → ℕ → Type 0) (cols : List ℕ) (rows : Bag) : Type 0 where

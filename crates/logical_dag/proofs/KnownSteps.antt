@@ -12,15 +12,16 @@ use Rattle.col_sets.specs.Columns.{has_below, has_union, union_has, rank_place}
 use Rattle.col_sets.specs.Tests.{both, from_test}
 use Rattle.fd_closure.specs.declared.facts.Facts.{Facts}
 use Rattle.fd_closure.specs.Known.{equal_of}
-use Rattle.logical_dag.specs.declared.agg.Agg.{Agg}
-use Rattle.logical_dag.specs.declared.args.GroupArgs.{GroupArgs}
+use Rattle.logical_trees.specs.declared.agg.Agg.{Agg}
+use Rattle.logical_trees.specs.declared.args.GroupArgs.{GroupArgs}
 use Rattle.logical_dag.specs.declared.naming.Names.{Names}
-use Rattle.logical_dag.specs.Tree.{group_columns}
-use Rattle.logical_dag.specs.Formed.{IsGroup, IsOver}
+use Rattle.logical_trees.specs.Tree.{group_columns}
+use Rattle.logical_trees.specs.Formed.{IsGroup, IsOver}
 use Rattle.logical_dag.specs.Facts.{IsLinked, stated, Renamed, BothRenamed, DependencyRenamed, is_column, is_literal, ref_name, item_name, key_name, AreSameItem, IsAggregate}
 use Rattle.logical_dag.specs.Known.{name_of, IsNaming, IsDependency, AreClasses, AreDependencies, AreConstants, CarriedConstants, CarriedDependencies, CarriedEqualities, AreCarried, IsItem, AreRenamed, AreProjected, AreGrouped, AreJoined}
 use Rattle.logical_dag.proofs.Classes.{linked_same, classes_same, classes_moved, classes_chain}
-use Rattle.logical_dag.proofs.KnownColumns.{has_at, rank_at, ref_source, key_source}
+use Rattle.logical_trees.specs.ColumnLemmas.{has_at, rank_at}
+use Rattle.logical_dag.proofs.KnownColumns.{ref_source, key_source}
 use Rattle.logical_dag.proofs.Constants.{constants_same, constants_chain, constants_moved}
 use Rattle.logical_dag.proofs.Dependencies.{dependencies_same, dependencies_moved, dependencies_chain}
 use Rattle.logical_dag.proofs.ItemFacts.{item_one, first_place}

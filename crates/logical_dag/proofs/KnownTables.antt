@@ -10,18 +10,19 @@ use Rattle.scope_expr.specs.declared.expr.Expr.{Expr}
 use Rattle.fd_closure.specs.declared.facts.Facts.{Facts}
 use Rattle.fd_closure.specs.Known.{by_of, equal_of}
 use Rattle.fd_closure.specs.Laws.{equal_parts}
-use Rattle.logical_dag.specs.declared.args.GroupArgs.{GroupArgs}
-use Rattle.logical_dag.specs.declared.args.CallArgs.{CallArgs}
-use Rattle.logical_dag.specs.declared.logic_op.LogicOp.{LogicOp}
-use Rattle.logical_dag.specs.declared.logic_op.LogicOp.TheVariants.{Scan, Ref, Filter, Project, Join, Group, Process, Reduce, Combine, Partial, Finish}
-use Rattle.logical_dag.specs.Tree.{Expression, leaf, one, two, columns_of, group_columns}
-use Rattle.logical_dag.specs.Formed.{IsGroup, IsJoin, IsOver, IsFormed}
+use Rattle.logical_trees.specs.declared.args.GroupArgs.{GroupArgs}
+use Rattle.logical_trees.specs.declared.args.CallArgs.{CallArgs}
+use Rattle.logical_trees.specs.declared.logic_op.LogicOp.{LogicOp}
+use Rattle.logical_trees.specs.declared.logic_op.LogicOp.TheVariants.{Scan, Ref, Filter, Project, Join, Group, Process, Reduce, Combine, Partial, Finish}
+use Rattle.logical_trees.specs.Tree.{Expression, leaf, one, two, columns_of, group_columns}
+use Rattle.logical_trees.specs.Formed.{IsGroup, IsJoin, IsOver, IsFormed}
 use Rattle.logical_dag.specs.Facts.{IsLinked, stated, Renamed, BothRenamed, DependencyRenamed, IsAggregate, AreSameItem, SetsConstant, SetsEqual, ref_name, item_name, key_name, is_literal, IsConstant, Determines, AreEqual, AreFactsOf}
 use Rattle.logical_dag.specs.Laws.{lent_columns}
 use Rattle.std.proofs.lemmas.Option.{slice_get-map}
 use Rattle.logical_dag.specs.Known.{IsLentSet, IsDependency, IsOwn, AreBelow, AreClasses, AreDependencies, AreConstants, CarriedEqualities, AreRenamed, AreProjected, AreGrouped, AreJoined, AreApart, IsJoinApart}
 use Rattle.logical_dag.proofs.Classes.{linked_same, classes_same, classes_linked}
-use Rattle.logical_dag.proofs.KnownColumns.{columns_set, AreAbout, known_about, key_source, key_named, equal_over}
+use Rattle.logical_trees.specs.ColumnLemmas.{columns_set}
+use Rattle.logical_dag.proofs.KnownColumns.{AreAbout, known_about, key_source, key_named, equal_over}
 use Rattle.logical_dag.proofs.Links.{equal_itself}
 use Rattle.logical_dag.proofs.Constants.{constants_same, constants_same_low}
 use Rattle.logical_dag.proofs.Dependencies.{dependencies_same, dependencies_moved}

@@ -6,16 +6,17 @@ use Rattle.col_sets.specs.Columns.{has_below}
 use Rattle.fd_closure.specs.declared.facts.Facts.{Facts}
 use Rattle.fd_closure.specs.Known.{by_of, equal_of}
 use Rattle.fd_closure.specs.Laws.{equal_parts}
-use Rattle.logical_dag.specs.Tree.{Expression, columns_of}
-use Rattle.logical_dag.specs.Formed.{IsFormed}
+use Rattle.logical_trees.specs.Tree.{Expression, columns_of}
+use Rattle.logical_trees.specs.Formed.{IsFormed}
 use Rattle.logical_dag.specs.Facts.{IsLinked, stated, key_name, IsConstant, Determines, AreEqual, AreFactsOf}
 use Rattle.logical_dag.specs.Known.{IsDependency, AreConstants, AreDependencies, AreClasses, CarriedEqualities, AreJoined, AreApart}
-use Rattle.logical_dag.specs.BlockFacts.{SomeLeaf, columns_of_all}
+use Rattle.logical_trees.specs.Blocks.{SomeLeaf, columns_of_all}
 use Rattle.logical_dag.specs.Gathered.{IsOverColumns, IsApartFrom, AreAdded}
-use Rattle.logical_dag.proofs.RowValues.{in_list}
+use Rattle.list_lemmas.specs.Members.{in_list}
 use Rattle.logical_dag.proofs.Classes.{linked_same, classes_same}
-use Rattle.logical_dag.proofs.KnownColumns.{columns_set, key_source, key_named, known_about}
-use Rattle.logical_dag.proofs.Leaves.{union_none}
+use Rattle.logical_trees.specs.ColumnLemmas.{columns_set}
+use Rattle.logical_dag.proofs.KnownColumns.{key_source, key_named, known_about}
+use Rattle.logical_trees.specs.LeafLemmas.{union_none}
 
 module _ (shared : List Facts) (results : List (List ℕ)) (t : Expression) (formed : IsFormed results t) (into facts f : Facts) (known : AreFactsOf shared t facts)
     (joined : AreJoined [] into facts f) where

@@ -1,8 +1,8 @@
 -- Chains of stated equalities, and the equal columns of an expression.
 use Rattle.std.proofs.Common.{ℕ, List, refl, sym, ◌∙◌}
 use Rattle.fd_closure.specs.declared.facts.Facts.{Facts}
-use Rattle.logical_dag.specs.declared.logic_op.LogicOp.TheVariants.{Ref, Filter, Project, Join, Group, Process, Reduce, Partial, Finish}
-use Rattle.logical_dag.specs.Tree.{Expression, leaf, one, two}
+use Rattle.logical_trees.specs.declared.logic_op.LogicOp.TheVariants.{Ref, Filter, Project, Join, Group, Process, Reduce, Partial, Finish}
+use Rattle.logical_trees.specs.Tree.{Expression, leaf, one, two}
 use Rattle.logical_dag.specs.Facts.{IsLinked, stated, itself, turned, chained, AreEqual}
 use Rattle.logical_dag.proofs.Classes.{linked_bind}
 

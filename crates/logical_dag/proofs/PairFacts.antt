@@ -9,7 +9,7 @@ use Rattle.fd_closure.specs.Known.{equal_of, IsMerged}
 use Rattle.logical_dag.specs.Facts.{stated}
 use Rattle.logical_dag.specs.Known.{IsOwn, AreClasses}
 use Rattle.logical_dag.specs.BlockFacts.{IsInside}
-use Rattle.logical_dag.proofs.RowValues.{in_list, list_in}
+use Rattle.list_lemmas.specs.Members.{in_list, list_in}
 use Rattle.logical_dag.proofs.Classes.{classes_same, classes_chain, classes_kept, classes_with}
 
 -- equal by the facts, or a pair that lies inside

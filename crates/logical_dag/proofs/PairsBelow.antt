@@ -8,7 +8,7 @@ use Rattle.fd_closure.specs.declared.facts.Facts.{Facts}
 use Rattle.fd_closure.specs.Known.{equal_of, IsMerged}
 use Rattle.logical_dag.specs.Facts.{stated}
 use Rattle.logical_dag.specs.Known.{IsOwn, AreClasses}
-use Rattle.logical_dag.proofs.Reading.{one_read}
+use Rattle.list_lemmas.specs.Reading.{one_read}
 use Rattle.logical_dag.proofs.Classes.{classes_same, classes_merged, classes_kept}
 
 -- one pair of the first n

@@ -3,19 +3,20 @@ use Rattle.std.proofs.Common.{◌≡◌, ℕ, List, [], ◌∷◌, map, length, 
 use Rattle.std.proofs.lemmas.List.{length-map}
 use Rattle.fd_closure.specs.declared.facts.Facts.{Facts}
 use Rattle.logical_dag.specs.declared.place.PlacePart.TheVariants.{Leaves, Lower}
-use Rattle.logical_dag.specs.declared.args.GroupArgs.{GroupArgs}
-use Rattle.logical_dag.specs.declared.args.TopArgs.{TopArgs}
-use Rattle.logical_dag.specs.declared.logical.Logical.{Logical, out-Logical, fold_out-Logical}
-use Rattle.logical_dag.specs.declared.logic_op.LogicOp.{LogicOp}
-use Rattle.logical_dag.specs.declared.logic_op.LogicOp.TheVariants.{Join, Group, Top, Partial, LocalTop}
-use Rattle.logical_dag.specs.Tree.{Expression, leaf, one, two, node, tree_of}
-use Rattle.logical_dag.specs.Formed.{IsFormed}
+use Rattle.logical_trees.specs.declared.args.GroupArgs.{GroupArgs}
+use Rattle.logical_trees.specs.declared.args.TopArgs.{TopArgs}
+use Rattle.logical_trees.specs.declared.logical.Logical.{Logical, out-Logical, fold_out-Logical}
+use Rattle.logical_trees.specs.declared.logic_op.LogicOp.{LogicOp}
+use Rattle.logical_trees.specs.declared.logic_op.LogicOp.TheVariants.{Join, Group, Top, Partial, LocalTop}
+use Rattle.logical_trees.specs.Tree.{Expression, leaf, one, two, node, tree_of}
+use Rattle.logical_trees.specs.Formed.{IsFormed}
 use Rattle.logical_dag.specs.Facts.{AreFactsOf}
-use Rattle.logical_dag.specs.Places.{block_leaves, block_pairs, chosen, IsPart}
+use Rattle.logical_trees.specs.Blocks.{block_leaves, block_pairs, chosen}
+use Rattle.logical_dag.specs.Places.{IsPart}
 use Rattle.logical_dag.specs.BlockFacts.{AreFactsOfAll}
 use Rattle.logical_dag.proofs.JoinFacts.{join_facts}
-use Rattle.logical_dag.proofs.Leaves.{formed_sets}
-use Rattle.logical_dag.proofs.Blocks.{chosen_formed, chosen_none_within}
+use Rattle.logical_trees.specs.LeafLemmas.{formed_sets}
+use Rattle.logical_trees.specs.BlockLemmas.{chosen_formed, chosen_none_within}
 
 -- the facts of chosen leaves are those of each join of them
 pub leaves_facts : (results : List (List ℕ)) (shared : List Facts) (mask : ℕ) (node t : Expression) (f : Facts) → IsFormed results node → IsPart (Leaves mask) node t

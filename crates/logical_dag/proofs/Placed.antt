@@ -9,13 +9,13 @@ use Rattle.logical_dag.specs.declared.dag.Dag.{Dag}
 use Rattle.logical_dag.specs.declared.place.Place.{Place}
 use Rattle.logical_dag.specs.declared.place.PlacePart.{PlacePart}
 use Rattle.logical_dag.specs.declared.place.PlacePart.TheVariants.{Whole, Leaves, Lower}
-use Rattle.logical_dag.specs.declared.logic_op.LogicOp.TheVariants.{Ref, Join, Group, Top}
-use Rattle.logical_dag.specs.Tree.{Expression, leaf, one, two, nodes, columns_of}
-use Rattle.logical_dag.specs.Formed.{IsFormed}
+use Rattle.logical_trees.specs.declared.logic_op.LogicOp.TheVariants.{Ref, Join, Group, Top}
+use Rattle.logical_trees.specs.Tree.{Expression, leaf, one, two, nodes, columns_of}
+use Rattle.logical_trees.specs.Formed.{IsFormed}
 use Rattle.logical_dag.specs.Scripts.{shared_trees, output_trees, all_trees, IsWritten, IsBindable}
 use Rattle.logical_dag.specs.Places.{IsPart, IsAt}
-use Rattle.logical_dag.proofs.RowValues.{list_in}
-use Rattle.logical_dag.proofs.Blocks.{chosen_join_formed}
+use Rattle.list_lemmas.specs.Members.{list_in}
+use Rattle.logical_trees.specs.BlockLemmas.{chosen_join_formed}
 
 -- ---- what stands at places of lists
 

@@ -8,16 +8,16 @@ use Rattle.fd_closure.specs.Hold.{FactsHold}
 use Rattle.user_ops.specs.Told.{Operators}
 use Rattle.logical_dag.specs.declared.dag.Dag.{Dag}
 use Rattle.logical_dag.specs.declared.place.Place.{Place}
-use Rattle.logical_dag.specs.declared.logic_op.LogicOp.TheVariants.{Ref}
-use Rattle.logical_dag.specs.Tree.{Expression, leaf, one, two, columns_of}
-use Rattle.logical_dag.specs.Meaning.{Sources, bag_at, StandsFor}
+use Rattle.logical_trees.specs.declared.logic_op.LogicOp.TheVariants.{Ref}
+use Rattle.logical_trees.specs.Tree.{Expression, leaf, one, two, columns_of}
+use Rattle.logical_trees.specs.Meaning.{Sources, bag_at, StandsFor}
 use Rattle.logical_dag.specs.Facts.{AreFactsOf}
-use Rattle.logical_dag.specs.Formed.{IsFormed}
+use Rattle.logical_trees.specs.Formed.{IsFormed}
 use Rattle.logical_dag.specs.Laws.{LentHold, lent_columns}
 use Rattle.logical_dag.specs.Known.{IsLentSet}
 use Rattle.logical_dag.specs.Scripts.{shared_trees, IsWritten, IsBindable}
 use Rattle.logical_dag.specs.Places.{AreSharedFacts, AreFactsAt, SharedStand, HoldAt}
-use Rattle.logical_dag.proofs.KnownColumns.{columns_set}
+use Rattle.logical_trees.specs.ColumnLemmas.{columns_set}
 use Rattle.logical_dag.proofs.KnownHold.{facts_hold}
 use Rattle.logical_dag.proofs.Placed.{some_and, if_some, got_first, shared_columns, place_formed}
 

@@ -1,20 +1,11 @@
 -- The facts of a join of some leaves of a block, in whatever order they are joined.
-use Rattle.std.specs.Prelude.{◌≡◌, ◌↔◌, ◌⊎◌, ◌<◌, ℕ, true, List, [], ◌∷◌, Contains}
-use Rattle.col_sets.specs.Sets.{has, union}
+use Rattle.std.specs.Prelude.{◌≡◌, ◌↔◌, ◌⊎◌, ◌<◌, ℕ, true, List, Contains}
+use Rattle.col_sets.specs.Sets.{has}
 use Rattle.fd_closure.specs.declared.facts.Facts.{Facts}
 use Rattle.fd_closure.specs.Known.{by_of, equal_of}
-use Rattle.logical_dag.specs.Tree.{Expression, columns_of}
+use Rattle.logical_trees.specs.Tree.{Expression}
+use Rattle.logical_trees.specs.Blocks.{SomeLeaf, columns_of_all}
 use Rattle.logical_dag.specs.Facts.{IsLinked, IsConstant, Determines, AreEqual}
-
--- it is so of some leaf
-abbrev pub SomeLeaf : (Expression → Type 0) → List Expression → Type 0
-SomeLeaf P [] = ⊥
-SomeLeaf P (t ∷ leaves) = P t ⊎ SomeLeaf P leaves
-
--- the columns of all leaves
-abbrev pub columns_of_all : List Expression → List ℕ
-columns_of_all [] = []
-columns_of_all (t ∷ leaves) = union (columns_of t) (columns_of_all leaves)
 
 -- a pair both of whose columns are among these
 abbrev pub IsInside : List (ℕ × ℕ) → List ℕ → ℕ → ℕ → Type 0

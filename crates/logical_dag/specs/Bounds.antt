@@ -1,9 +1,9 @@
 -- How large a script's expressions may be.
 use Rattle.std.specs.Prelude.{◌≡◌, ◌≤◌, ◌+◌, ◌&&◌, ℕ, nat_lt, Bool, true, List, ◌++◌, length, sum_by}
 use Rattle.std.specs.List.{list_all}
-use Rattle.logical_dag.specs.declared.logic_op.LogicOp.{LogicOp}
-use Rattle.logical_dag.specs.declared.logic_op.LogicOp.TheVariants.{Filter, Join}
-use Rattle.logical_dag.specs.Tree.{Expression, leaf, one, two, nodes}
+use Rattle.logical_trees.specs.declared.logic_op.LogicOp.{LogicOp}
+use Rattle.logical_trees.specs.declared.logic_op.LogicOp.TheVariants.{Filter, Join}
+use Rattle.logical_trees.specs.Tree.{Expression, leaf, one, two, nodes}
 
 -- a Filter counts for nothing, any other node for one
 abbrev pub weight : LogicOp → ℕ

@@ -7,9 +7,9 @@ use Rattle.scope_expr.specs.declared.expr.Expr.{Expr, end_of-Expr, more_of-Expr}
 use Rattle.scope_expr.specs.declared.expr.Expr.TheVariants.{Literal, Col, Pair'}
 use Rattle.fd_closure.specs.declared.facts.Facts.{Facts}
 use Rattle.fd_closure.specs.Known.{by_of, equal_of}
-use Rattle.logical_dag.specs.declared.args.GroupArgs.{GroupArgs}
-use Rattle.logical_dag.specs.declared.logic_op.LogicOp.TheVariants.{Ref, Filter, Project, Join, Group, Process, Reduce, Partial, Finish}
-use Rattle.logical_dag.specs.Tree.{Expression, leaf, one, two, columns_of}
+use Rattle.logical_trees.specs.declared.args.GroupArgs.{GroupArgs}
+use Rattle.logical_trees.specs.declared.logic_op.LogicOp.TheVariants.{Ref, Filter, Project, Join, Group, Process, Reduce, Partial, Finish}
+use Rattle.logical_trees.specs.Tree.{Expression, leaf, one, two, columns_of}
 
 -- columns that a chain of stated equalities links
 pub data IsLinked (Stated : ℕ → ℕ → Type 0) : ℕ → ℕ → Type 0 where

@@ -1,8 +1,8 @@
 -- What a search for a tree or a node found.
 use Rattle.std.specs.Prelude.{◌≡◌, ◌+◌, ℕ, List, length, slice_get, Option, Some, option_map, Result, MatchResult}
 use Rattle.std.specs.Borrow.{Bor}
-use Rattle.logical_dag.specs.declared.logical.Logical.{Logical}
-use Rattle.logical_dag.specs.Tree.{Expression, tree_of}
+use Rattle.logical_trees.specs.declared.logical.Logical.{Logical}
+use Rattle.logical_trees.specs.Tree.{Expression, tree_of}
 
 -- the tree that was found, if one was
 abbrev pub found_tree : Option (Bor Logical) → Option Expression

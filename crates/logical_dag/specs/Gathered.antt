@@ -3,10 +3,10 @@ use Rattle.std.specs.Prelude.{◌≡◌, ◌⊎◌, ◌<◌, ◌/◌, ◌&&◌, 
 use Rattle.col_sets.specs.Sets.{has, union, IsColumnSet}
 use Rattle.fd_closure.specs.declared.facts.Facts.{Facts}
 use Rattle.fd_closure.specs.Known.{equal_of}
-use Rattle.logical_dag.specs.Tree.{Expression, columns_of}
+use Rattle.logical_trees.specs.Tree.{Expression, columns_of}
 use Rattle.logical_dag.specs.Facts.{IsConstant, Determines, AreEqual}
 use Rattle.logical_dag.specs.Known.{IsOwn, IsDependency, AreConstants, AreDependencies, AreClasses}
-use Rattle.logical_dag.specs.BlockFacts.{SomeLeaf, columns_of_all}
+use Rattle.logical_trees.specs.Blocks.{SomeLeaf, columns_of_all}
 
 -- the bits of the mask that are left once each of these had its own
 abbrev pub bits_after : {X : Type 0} → List X → ℕ → ℕ

@@ -4,13 +4,13 @@ use Rattle.col_sets.specs.Sets.{has, union, IsColumnSet}
 use Rattle.scope_expr.specs.declared.expr.Expr.{Expr}
 use Rattle.fd_closure.specs.declared.facts.Facts.{Facts}
 use Rattle.fd_closure.specs.Known.{by_of, equal_of, IsMerged}
-use Rattle.logical_dag.specs.declared.args.GroupArgs.{GroupArgs}
-use Rattle.logical_dag.specs.declared.logic_op.LogicOp.{LogicOp}
-use Rattle.logical_dag.specs.declared.logic_op.LogicOp.TheVariants.{Ref, Join}
+use Rattle.logical_trees.specs.declared.args.GroupArgs.{GroupArgs}
+use Rattle.logical_trees.specs.declared.logic_op.LogicOp.{LogicOp}
+use Rattle.logical_trees.specs.declared.logic_op.LogicOp.TheVariants.{Ref, Join}
 use Rattle.logical_dag.specs.declared.naming.Names.{Names}
-use Rattle.logical_dag.specs.Tree.{Expression, leaf, one, two, group_columns}
+use Rattle.logical_trees.specs.Tree.{Expression, leaf, one, two, group_columns}
 use Rattle.logical_dag.specs.Facts.{IsLinked, Renamed, BothRenamed, DependencyRenamed, is_column, is_literal, item_name, key_name, AreSameItem, IsAggregate, AreFactsOf}
-use Rattle.logical_dag.specs.Formed.{IsFormed}
+use Rattle.logical_trees.specs.Formed.{IsFormed}
 use Rattle.logical_dag.specs.Laws.{lent_columns}
 
 -- the facts that are lent for a shared result are over a set of columns

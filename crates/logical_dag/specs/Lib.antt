@@ -1,14 +1,9 @@
 pub mod BlockFacts
 pub mod Bounds
 pub mod Facts
-pub mod First
-pub mod Formed
 pub mod Found
 pub mod Gathered
 pub mod Known
 pub mod Laws
-pub mod Meaning
 pub mod Places
-pub mod Rows
 pub mod Scripts
-pub mod Tree

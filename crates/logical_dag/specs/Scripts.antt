@@ -3,11 +3,11 @@ use Rattle.std.specs.Prelude.{◌≡◌, ℕ, Bool, true, false, not, List, [], 
 use Rattle.std.specs.List.{range_with_len, list_all}
 use Rattle.col_sets.specs.Sets.{count}
 use Rattle.logical_dag.specs.declared.dag.Dag.{Dag}
-use Rattle.logical_dag.specs.declared.logic_op.LogicOp.{LogicOp}
-use Rattle.logical_dag.specs.declared.logic_op.LogicOp.TheVariants.{Scan, Partial, Finish, LocalTop, LastTop}
-use Rattle.logical_dag.specs.Tree.{Expression, leaf, one, two, tree_of, nodes, columns_of, IsNumbered}
-use Rattle.logical_dag.specs.Rows.{order_of}
-use Rattle.logical_dag.specs.Formed.{IsWhole, IsFormed, IsOrderOver}
+use Rattle.logical_trees.specs.declared.logic_op.LogicOp.{LogicOp}
+use Rattle.logical_trees.specs.declared.logic_op.LogicOp.TheVariants.{Scan, Partial, Finish, LocalTop, LastTop}
+use Rattle.logical_trees.specs.Tree.{Expression, leaf, one, two, tree_of, nodes, columns_of, IsNumbered}
+use Rattle.logical_trees.specs.Rows.{order_of}
+use Rattle.logical_trees.specs.Formed.{IsWhole, IsFormed, IsOrderOver}
 
 -- the trees of the shared results
 abbrev pub shared_trees : Dag → List Expression

@@ -1,18 +1,17 @@
 // What is known of the rows of a join of some leaves of a join block, whatever the order in which they are joined.
 ghost use Rattle.std.specs.Prelude.{◌≡◌, ◌/◌, [], ◌∷◌};
-ghost use Rattle.logical_dag.specs.Tree.{tree_of};
-ghost use Rattle.logical_dag.specs.Formed.{IsFormed};
+ghost use Rattle.logical_trees.specs.Tree.{tree_of};
+ghost use Rattle.logical_trees.specs.Formed.{IsFormed};
 ghost use Rattle.logical_dag.specs.Laws.{lent_columns};
-ghost use Rattle.logical_dag.specs.Places.{block_leaves, block_pairs, chosen};
+ghost use Rattle.logical_trees.specs.Blocks.{block_leaves, block_pairs, chosen};
 ghost use Rattle.logical_dag.specs.BlockFacts.{AreFactsOfAll};
 ghost use Rattle.logical_dag.specs.Gathered.{bits_after, IsBlank, IsOverColumns, IsApartFrom, AreAdded};
 
 use crate::block_pairs::with_block_pairs;
 use crate::known::{facts_of, joined};
-use crate::logic_op::LogicOp;
-use crate::logical::Logical;
 use col_sets::ColSet;
 use fd_closure::Facts;
+use logical_trees::{LogicOp, Logical};
 
 // The facts of the leaves so far, and the bits of the mask that are left for those to come.
 #[derive(Clone, Copy)]

@@ -2,15 +2,14 @@
 ghost use Rattle.std.specs.Prelude.{◌≡◌, ◌⊎◌, true, [], ◌∷◌};
 ghost use Rattle.col_sets.specs.Sets.{IsColumnSet};
 ghost use Rattle.fd_closure.specs.Known.{equal_of};
-ghost use Rattle.logical_dag.specs.Tree.{tree_of};
+ghost use Rattle.logical_trees.specs.Tree.{tree_of};
 ghost use Rattle.logical_dag.specs.Known.{IsOwn, AreClasses};
-ghost use Rattle.logical_dag.specs.Places.{block_pairs};
+ghost use Rattle.logical_trees.specs.Blocks.{block_pairs};
 ghost use Rattle.logical_dag.specs.BlockFacts.{IsInside};
 
-use crate::logic_op::LogicOp;
-use crate::logical::Logical;
 use col_sets::ColId;
 use fd_closure::Facts;
+use logical_trees::{LogicOp, Logical};
 
 // With the columns of the pair equal, if both are there.
 fn with_pair(a: ColId, b: ColId, facts: Facts) -> Facts

@@ -1,10 +1,10 @@
 // A whole script as expressions.
 ghost use Rattle.std.specs.Prelude.{map, length};
-ghost use Rattle.logical_dag.specs.Tree.{tree_of};
+ghost use Rattle.logical_trees.specs.Tree.{tree_of};
 ghost use Rattle.logical_dag.specs.Bounds.{AreBounded};
 
-use crate::logical::Logical;
 use col_sets::KeyOrders;
+use logical_trees::Logical;
 use scope_value::{Cell, Schema};
 use sqlite_items::Items;
 

@@ -1,11 +1,11 @@
 // Trees and nodes of a script by number.
 ghost use Rattle.std.specs.Prelude.{◌≡◌, ◌+◌, slice_get, MatchResult};
-ghost use Rattle.logical_dag.specs.Tree.{tree_of, nodes};
+ghost use Rattle.logical_trees.specs.Tree.{tree_of, nodes};
 ghost use Rattle.logical_dag.specs.Scripts.{all_trees};
 ghost use Rattle.logical_dag.specs.Found.{found_tree, IsNodeAt};
 
 use crate::dag::Dag;
-use crate::logical::Logical;
+use logical_trees::Logical;
 
 /// The tree of that number: the shared ones are counted before those of the outputs.
 pub fn tree_at(dag: &Dag, number: u32) -> Option<&Logical>

@@ -2,18 +2,14 @@
 // works them out in one place, and what holds facts by value is not inlined, so that no level's frame has room for them.
 ghost use Rattle.std.specs.Prelude.{◌<◌, All, Some};
 ghost use Rattle.col_sets.specs.Sets.{IsColumnSet};
-ghost use Rattle.logical_dag.specs.Tree as tree;
-ghost use Rattle.logical_dag.specs.Tree.{leaf, tree_of};
-ghost use Rattle.logical_dag.specs.Formed.{IsFormed, IsOver, IsGroup, IsOneFormed, IsTwoFormed};
+ghost use Rattle.logical_trees.specs.Tree as tree;
+ghost use Rattle.logical_trees.specs.Tree.{leaf, tree_of};
+ghost use Rattle.logical_trees.specs.Formed.{IsFormed, IsOver, IsGroup, IsOneFormed, IsTwoFormed};
 ghost use Rattle.logical_dag.specs.Facts.{ref_name, key_name, AreFactsOf};
 ghost use Rattle.logical_dag.specs.Known.{IsLentSet, name_of, IsNaming, IsOwn, AreRenamed, AreProjected, AreGrouped, AreJoined, AreApart, AreFactsAbove, AreFactsOver, IsJoinApart, IsLeftOf, AreFactsBeside};
 ghost use Rattle.logical_dag.specs.Laws.{lent_columns, HoldOf, DoFactsHold};
 
-use crate::args::GroupArgs;
 use crate::carried::{carried, with_equalities, with_same_dependencies};
-use crate::columns::group_columns;
-use crate::logic_op::LogicOp;
-use crate::logical::Logical;
 use crate::naming::{Names, item_names, key_names, ref_names};
 use crate::stated::{
     with_conjuncts, with_constant_aggregates, with_keyed_aggregates, with_literals, with_pairs,
@@ -21,6 +17,7 @@ use crate::stated::{
 };
 use col_sets::{ColId, ColSet};
 use fd_closure::Facts;
+use logical_trees::{GroupArgs, LogicOp, Logical, group_columns};
 use scope_expr::Expr;
 
 // A set has its columns in ascending order, below 128.

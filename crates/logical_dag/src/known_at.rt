@@ -1,7 +1,7 @@
 // What is known of the rows of an expression that is named by its place.
 ghost use Rattle.std.specs.Prelude.{◌≤◌, take};
-ghost use Rattle.logical_dag.specs.Tree.{Expression, tree_of};
-ghost use Rattle.logical_dag.specs.Formed.{IsFormed};
+ghost use Rattle.logical_trees.specs.Tree.{Expression, tree_of};
+ghost use Rattle.logical_trees.specs.Formed.{IsFormed};
 ghost use Rattle.logical_dag.specs.Facts.{AreFactsOf};
 ghost use Rattle.logical_dag.specs.Laws.{lent_columns};
 ghost use Rattle.logical_dag.specs.Scripts.{IsBindable};
@@ -12,10 +12,9 @@ use crate::block_facts::{block_facts, nothing_known};
 use crate::dag::Dag;
 use crate::finding::{node_at, tree_at};
 use crate::known::{facts_of, keyed};
-use crate::logic_op::LogicOp;
-use crate::logical::Logical;
 use crate::place::{Place, PlacePart};
 use fd_closure::Facts;
+use logical_trees::{LogicOp, Logical};
 
 // The facts of the shared results in the first `count` places, in order.
 #[derive(Clone, Copy)]

@@ -1,34 +1,24 @@
-//! Logical expressions over bags of rows, and what each of them means.
+//! A script's expressions: its Dag, the places of expressions in it, and what is known of their rows.
 //!
-//! An expression is a tree of operators over scans of streams and over results that several consumers share. What it
-//! means is said of bags alone: which bags stand for it (`specs/Meaning.antt`). Nothing here knows of partitions, hashing
-//! or the order in which rows come, so that rewritings, kernels and plans can all be held against it.
+//! The expressions and what they mean stand in `logical_trees`, and are handed on here.
 #![tactic(auto)]
 
-mod agg;
-mod args;
 mod block_facts;
 mod block_pairs;
 mod carried;
-mod columns;
 mod dag;
 mod finding;
 mod known;
 mod known_at;
-mod laws;
-mod logic_op;
-mod logical;
 mod naming;
 mod place;
 mod stated;
 
-pub use agg::Agg;
-pub use args::{CallArgs, GroupArgs, TopArgs};
-pub use columns::{columns_of, group_columns};
 pub use dag::{Dag, Output, ScanDecl};
 pub use known::{facts_law, facts_of};
 pub use known_at::facts_at;
-pub use laws::{bag_law, replacement_law, split_law};
-pub use logic_op::LogicOp;
-pub use logical::Logical;
+pub use logical_trees::{
+    Agg, CallArgs, GroupArgs, LogicOp, Logical, TopArgs, bag_law, columns_of, group_columns,
+    replacement_law, split_law,
+};
 pub use place::{Place, PlacePart};

@@ -5,10 +5,10 @@ ghost use Rattle.fd_closure.specs.Known.{equal_of};
 ghost use Rattle.logical_dag.specs.Facts.{IsColumnAndLiteral, AreColumns, SetsConstant, SetsEqual, is_column, is_literal, AreSameItem};
 ghost use Rattle.logical_dag.specs.Known.{IsOwn, AreBelow, AreConstants, AreDependencies, AreClasses, IsDependency, IsItemEquated};
 
-use crate::agg::Agg;
 use crate::naming::{column_at, place_of};
 use col_sets::{ColId, ColSet};
 use fd_closure::Facts;
+use logical_trees::Agg;
 use scope_expr::{Expr, PairOp};
 
 // Adds what an equation of two sides states: of a column and a literal a constant, of two columns that they are equal. Not

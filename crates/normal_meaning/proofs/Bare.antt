@@ -10,22 +10,20 @@ use Rattle.col_sets.specs.Tests.{both, and_true}
 use Rattle.script_trees.specs.declared.op.PairOp.TheVariants.{And}
 use Rattle.scope_expr.specs.declared.expr.Expr.{Expr}
 use Rattle.scope_expr.specs.declared.expr.Expr.TheVariants.{Pair}
-use Rattle.logical_dag.specs.declared.args.GroupArgs.{GroupArgs}
-use Rattle.logical_dag.specs.declared.args.TopArgs.{TopArgs}
-use Rattle.logical_dag.specs.declared.logic_op.LogicOp.TheVariants.{Filter, Project, Join, Group, Process, Reduce, Combine, Top, Partial, Finish, LocalTop, LastTop}
-use Rattle.logical_dag.specs.Tree.{Expression, leaf, one, two, nodes, fresh_columns, numbered_columns}
-use Rattle.logical_dag.specs.Formed.{IsWhole, IsPartialOf, IsLocalTopOf}
+use Rattle.logical_trees.specs.declared.args.GroupArgs.{GroupArgs}
+use Rattle.logical_trees.specs.declared.args.TopArgs.{TopArgs}
+use Rattle.logical_trees.specs.declared.logic_op.LogicOp.TheVariants.{Filter, Project, Join, Group, Process, Reduce, Combine, Top, Partial, Finish, LocalTop, LastTop}
+use Rattle.logical_trees.specs.Tree.{Expression, leaf, one, two, nodes, fresh_columns, numbered_columns, columns_of}
+use Rattle.logical_trees.specs.Formed.{IsWhole, IsPartialOf, IsLocalTopOf, IsOrderOver}
 use Rattle.logical_dag.specs.Scripts.{top_of, is_step, scan_of, scans_of, IsWritten}
 use Rattle.col_sets.specs.declared.dir.Dir.{Dir}
-use Rattle.logical_dag.specs.Rows.{order_of}
-use Rattle.logical_dag.specs.Formed.{IsOrderOver}
+use Rattle.logical_trees.specs.Rows.{order_of}
 use Rattle.script_meaning.specs.Written.{AreOrdersOver, AreBindable}
 use Rattle.logical_dag.specs.Bounds.{weight, node_count, filter_depth, block_width, is_narrow, AreBounded}
 use Rattle.normal_meaning.specs.Sinking.{conjuncts, passes, below, goes_to, can_sink, sink, sink_all, normal}
 use Rattle.normal_meaning.specs.Normal.{is_filter, IsNormal, bare}
 use Rattle.normal_meaning.proofs.Sunk.{formed_normal, columns_normal}
 use Rattle.normal_meaning.proofs.Stuck.{normal_is}
-use Rattle.logical_dag.specs.Tree.{columns_of}
 
 -- ---- the tree without its Filters
 

@@ -9,18 +9,18 @@ use Rattle.script_trees.specs.declared.op.PairOp.TheVariants.{And}
 use Rattle.scope_expr.specs.declared.expr.Expr.{Expr}
 use Rattle.scope_expr.specs.declared.expr.Expr.TheVariants.{Pair}
 use Rattle.scope_expr.specs.Value.{holds}
-use Rattle.logical_dag.specs.declared.args.GroupArgs.{GroupArgs}
-use Rattle.logical_dag.specs.declared.logic_op.LogicOp.{LogicOp}
-use Rattle.logical_dag.specs.declared.logic_op.LogicOp.TheVariants.{Filter, Project, Join, Group}
-use Rattle.logical_dag.specs.Tree.{Expression, one, two, one_columns, two_columns, group_columns, columns_of}
-use Rattle.logical_dag.specs.Rows.{Row, Bag, projected, agree_on, merged, joined, distinct, with_key, keys_among, whole_value, group_row, group_keys, grouped}
-use Rattle.logical_dag.specs.Meaning.{GivesOne, GivesTwo, StandsFor, SameBags}
-use Rattle.logical_dag.specs.Formed.{IsGroup, IsOneFormed, IsTwoFormed}
-use Rattle.logical_dag.proofs.Bags.{same_permuted, filter_permuted, filters_turned}
-use Rattle.logical_dag.proofs.Distinct.{is_row, row_is}
-use Rattle.logical_dag.proofs.Groups.{grouped_permuted, joined_permuted}
-use Rattle.logical_dag.proofs.GroupRows.{group_row-key}
-use Rattle.logical_dag.proofs.RowValues.{value_over}
+use Rattle.logical_trees.specs.declared.args.GroupArgs.{GroupArgs}
+use Rattle.logical_trees.specs.declared.logic_op.LogicOp.{LogicOp}
+use Rattle.logical_trees.specs.declared.logic_op.LogicOp.TheVariants.{Filter, Project, Join, Group}
+use Rattle.logical_trees.specs.Tree.{Expression, one, two, one_columns, two_columns, group_columns, columns_of}
+use Rattle.logical_trees.specs.Rows.{Row, Bag, projected, agree_on, merged, joined, with_key, keys_among, whole_value, group_row, group_keys, grouped}
+use Rattle.list_lemmas.specs.Distinct.{distinct, is_row, row_is}
+use Rattle.logical_trees.specs.Meaning.{GivesOne, GivesTwo, StandsFor, SameBags}
+use Rattle.logical_trees.specs.Formed.{IsGroup, IsOneFormed, IsTwoFormed}
+use Rattle.list_lemmas.specs.Bags.{same_permuted, filter_permuted, filters_turned}
+use Rattle.logical_trees.specs.GroupLemmas.{grouped_permuted, joined_permuted}
+use Rattle.logical_trees.specs.GroupRowLemmas.{group_row-key}
+use Rattle.logical_trees.specs.RowLemmas.{value_over}
 use Rattle.normal_meaning.specs.Sinking.{each_column, is_keyed, passes, below, goes_to}
 use Rattle.normal_meaning.proofs.Values.{holds_same, holds_and, holds_below}
 use Rattle.normal_meaning.proofs.Lists.{filter_made, made_same, filter_right, filter_left, distinct_passes, filter_within}

@@ -7,9 +7,9 @@ use Rattle.script_trees.specs.declared.op.PairOp.TheVariants.{And}
 use Rattle.scope_expr.specs.declared.expr.Expr.{Expr, end_of-Expr, more_of-Expr}
 use Rattle.scope_expr.specs.declared.expr.Expr.TheBlock.{shape-the_row-Expr-0, hidden-the_row-Expr-0}
 use Rattle.scope_expr.specs.declared.expr.Expr.TheVariants.{Literal, Col, Neg', Not', Pair, Pair'}
-use Rattle.logical_dag.specs.declared.logic_op.LogicOp.{LogicOp}
-use Rattle.logical_dag.specs.declared.logic_op.LogicOp.TheVariants.{Filter, Project, Group}
-use Rattle.logical_dag.specs.Tree.{Expression, leaf, one, two, columns_of}
+use Rattle.logical_trees.specs.declared.logic_op.LogicOp.{LogicOp}
+use Rattle.logical_trees.specs.declared.logic_op.LogicOp.TheVariants.{Filter, Project, Group}
+use Rattle.logical_trees.specs.Tree.{Expression, leaf, one, two, columns_of}
 use Rattle.column_ranks.specs.Moved.{with_columns}
 use Rattle.normal_meaning.specs.Sinking.{conjuncts, each_column, is_simple, has_simple, item_for, passes, below, goes_to, can_sink, sink, sink_all, normal}
 use Rattle.normal_meaning.specs.Normal.{is_conjunct, IsChain, is_filter, AreStuck, IsNormal}

@@ -8,12 +8,12 @@ use Rattle.script_trees.specs.declared.op.PairOp.TheVariants.{And}
 use Rattle.scope_expr.specs.declared.expr.Expr.{Expr, end_of-Expr, more_of-Expr}
 use Rattle.scope_expr.specs.declared.expr.Expr.TheBlock.{shape-the_row-Expr-0, hidden-the_row-Expr-0}
 use Rattle.scope_expr.specs.declared.expr.Expr.TheVariants.{Pair, Pair'}
-use Rattle.logical_dag.specs.declared.logic_op.LogicOp.{LogicOp}
-use Rattle.logical_dag.specs.declared.logic_op.LogicOp.TheVariants.{Filter, Project, Join, Group}
-use Rattle.logical_dag.specs.Tree.{Expression, leaf, one, two, one_columns, two_columns, columns_of}
-use Rattle.logical_dag.specs.Meaning.{SameBags}
-use Rattle.logical_dag.specs.Formed.{IsFormed, IsOneFormed, IsTwoFormed, IsOver}
-use Rattle.logical_dag.proofs.KnownColumns.{columns_set}
+use Rattle.logical_trees.specs.declared.logic_op.LogicOp.{LogicOp}
+use Rattle.logical_trees.specs.declared.logic_op.LogicOp.TheVariants.{Filter, Project, Join, Group}
+use Rattle.logical_trees.specs.Tree.{Expression, leaf, one, two, one_columns, two_columns, columns_of}
+use Rattle.logical_trees.specs.Meaning.{SameBags}
+use Rattle.logical_trees.specs.Formed.{IsFormed, IsOneFormed, IsTwoFormed, IsOver}
+use Rattle.logical_trees.specs.ColumnLemmas.{columns_set}
 use Rattle.normal_meaning.specs.Sinking.{conjuncts, each_column, is_keyed, passes, below, goes_to, can_sink, sink, sink_all, normal}
 use Rattle.normal_meaning.proofs.Values.{each_passes, each_gives, over_both, over_below}
 use Rattle.normal_meaning.proofs.Steps.{same_itself, same_then, same_below, same_beside, filters_same, filters_joined, passed_same, left_same, right_same}

@@ -16,8 +16,8 @@ use Rattle.scope_expr.specs.declared.expr.Expr.TheBlock.{shape-the_row-Expr-0, h
 use Rattle.scope_expr.specs.declared.expr.Expr.TheVariants.{Literal, Col, Neg', Not', Pair, Pair'}
 use Rattle.scope_expr.specs.Value.{value, holds, column_value, negated, combined, is_true}
 use Rattle.scope_expr.specs.Kinds.{EachColumn}
-use Rattle.logical_dag.specs.Rows.{Row, projected}
-use Rattle.logical_dag.specs.Formed.{IsOver}
+use Rattle.logical_trees.specs.Rows.{Row, projected}
+use Rattle.logical_trees.specs.Formed.{IsOver}
 use Rattle.column_ranks.specs.Moved.{with_columns}
 use Rattle.column_ranks.specs.ValueLemmas.{value_with}
 use Rattle.normal_meaning.specs.Sinking.{each_column, is_simple, has_simple, item_for}

@@ -2,9 +2,9 @@
 use Rattle.std.proofs.Common.{◌≡◌, ℕ, List, [], ◌∷◌, map, sym, ap, ◌∙◌, Option, zero, suc, ◌+◌, take, slice_get, subst, arith}
 use Rattle.col_sets.specs.declared.dir.Dir.{Dir}
 use Rattle.user_ops.specs.Told.{Operators}
-use Rattle.logical_dag.specs.Tree.{Expression}
-use Rattle.logical_dag.specs.Rows.{Bag}
-use Rattle.logical_dag.specs.Meaning.{Sources}
+use Rattle.logical_trees.specs.Tree.{Expression, leaf, one, two, columns_of}
+use Rattle.logical_trees.specs.Rows.{Bag}
+use Rattle.logical_trees.specs.Meaning.{Sources}
 use Rattle.script_meaning.specs.Meaning.{in_order_opt}
 use Rattle.script_meaning.specs.Dag.{dag_of}
 use Rattle.script_meaning.specs.Laws.{AllStand, Writes, meaning, sources, Gives, FitsColumns}
@@ -18,9 +18,8 @@ use Rattle.script_meaning.specs.Placed.{IsPlaced}
 use Rattle.normal_meaning.proofs.Bare.{bindable_normal}
 use Rattle.std.specs.Prelude.{IfSome, IsSomeAnd, All}
 use Rattle.col_sets.specs.Sets.{count}
-use Rattle.logical_dag.specs.declared.logic_op.LogicOp.TheVariants.{Ref}
-use Rattle.logical_dag.specs.Tree.{leaf, one, two, columns_of}
-use Rattle.logical_dag.specs.Formed.{IsFormed}
+use Rattle.logical_trees.specs.declared.logic_op.LogicOp.TheVariants.{Ref}
+use Rattle.logical_trees.specs.Formed.{IsFormed}
 use Rattle.logical_dag.specs.Scripts.{IsWritten}
 use Rattle.normal_meaning.specs.Sinking.{normal}
 use Rattle.normal_meaning.specs.Dags.{normal_dag, AreFormed, KeepsGiven, NormalGivesMeaning, NormalGivesAlone, NormalIsBindable}

@@ -2,9 +2,9 @@
 use Rattle.std.specs.Prelude.{◌↔◌, ℕ, List, [], ◌∷◌, map, length}
 use Rattle.user_ops.specs.Told.{Operators}
 use Rattle.logical_dag.specs.declared.dag.ScanDecl.{ScanDecl}
-use Rattle.logical_dag.specs.Tree.{Expression}
-use Rattle.logical_dag.specs.Rows.{Bag}
-use Rattle.logical_dag.specs.Formed.{IsFormed}
+use Rattle.logical_trees.specs.Tree.{Expression}
+use Rattle.logical_trees.specs.Rows.{Bag}
+use Rattle.logical_trees.specs.Formed.{IsFormed}
 use Rattle.script_meaning.specs.Script.{Statement}
 use Rattle.script_meaning.specs.Dag.{ScriptDag, dag_of}
 use Rattle.script_meaning.specs.Laws.{Gives, meaning, FitsColumns, AreOuterTold}

@@ -6,9 +6,9 @@ use Rattle.script_trees.specs.declared.op.PairOp.TheVariants.{And, Lt, Add}
 use Rattle.script_trees.specs.declared.agg.AggKind.TheVariants.{Count}
 use Rattle.scope_expr.specs.declared.expr.Expr.{Expr}
 use Rattle.scope_expr.specs.declared.expr.Expr.TheVariants.{Literal, Col, Neg, Pair}
-use Rattle.logical_dag.specs.declared.logic_op.LogicOp.{LogicOp}
-use Rattle.logical_dag.specs.declared.logic_op.LogicOp.TheVariants.{Scan, Filter, Project, Join, Group, Top}
-use Rattle.logical_dag.specs.Tree.{Expression, leaf, one, two}
+use Rattle.logical_trees.specs.declared.logic_op.LogicOp.{LogicOp}
+use Rattle.logical_trees.specs.declared.logic_op.LogicOp.TheVariants.{Scan, Filter, Project, Join, Group, Top}
+use Rattle.logical_trees.specs.Tree.{Expression, leaf, one, two}
 use Rattle.normal_meaning.specs.Sinking.{normal}
 
 abbrev pub col : ℕ → Expr

@@ -1,9 +1,9 @@
 -- What the normal form keeps, and that it is one.
 use Rattle.std.specs.Prelude.{◌≡◌, ℕ, List, ◌++◌, map, flat_map, Option}
 use Rattle.col_sets.specs.declared.dir.Dir.{Dir}
-use Rattle.logical_dag.specs.Tree.{Expression, columns_of}
-use Rattle.logical_dag.specs.Meaning.{SameBags}
-use Rattle.logical_dag.specs.Formed.{IsFormed}
+use Rattle.logical_trees.specs.Tree.{Expression, columns_of}
+use Rattle.logical_trees.specs.Meaning.{SameBags}
+use Rattle.logical_trees.specs.Formed.{IsFormed}
 use Rattle.logical_dag.specs.Scripts.{IsWritten, scans_of}
 use Rattle.logical_dag.specs.Bounds.{AreBounded}
 use Rattle.script_meaning.specs.Written.{AreBindable}

@@ -3,8 +3,8 @@ use Rattle.std.specs.Prelude.{◌≡◌, Bool, true, false, List, [], ◌∷◌}
 use Rattle.script_trees.specs.declared.op.PairOp.TheVariants.{And}
 use Rattle.scope_expr.specs.declared.expr.Expr.{Expr, end_of-Expr, more_of-Expr}
 use Rattle.scope_expr.specs.declared.expr.Expr.TheVariants.{Pair'}
-use Rattle.logical_dag.specs.declared.logic_op.LogicOp.TheVariants.{Filter}
-use Rattle.logical_dag.specs.Tree.{Expression, leaf, one, two}
+use Rattle.logical_trees.specs.declared.logic_op.LogicOp.TheVariants.{Filter}
+use Rattle.logical_trees.specs.Tree.{Expression, leaf, one, two}
 use Rattle.normal_meaning.specs.Sinking.{conjuncts, can_sink}
 
 -- the expression is no `&&`

@@ -6,9 +6,9 @@ use Rattle.scope_value.specs.declared.schema.ColType.{ColType}
 use Rattle.script_trees.specs.declared.op.PairOp.TheVariants.{And}
 use Rattle.scope_expr.specs.declared.expr.Expr.{Expr, end_of-Expr, more_of-Expr}
 use Rattle.scope_expr.specs.declared.expr.Expr.TheVariants.{Literal, Col, Neg', Not', Pair, Pair'}
-use Rattle.logical_dag.specs.declared.logic_op.LogicOp.{LogicOp}
-use Rattle.logical_dag.specs.declared.logic_op.LogicOp.TheVariants.{Filter, Project, Join, Group}
-use Rattle.logical_dag.specs.Tree.{Expression, leaf, one, two, columns_of}
+use Rattle.logical_trees.specs.declared.logic_op.LogicOp.{LogicOp}
+use Rattle.logical_trees.specs.declared.logic_op.LogicOp.TheVariants.{Filter, Project, Join, Group}
+use Rattle.logical_trees.specs.Tree.{Expression, leaf, one, two, columns_of}
 use Rattle.column_ranks.specs.Moved.{with_columns}
 
 -- the conjuncts of a predicate, whose `&&` are taken apart

@@ -6,7 +6,8 @@ use Rattle.std.proofs.lemmas.List.{append-nil}
 use Rattle.std.proofs.lemmas.List.Elements.{filter-append}
 use Rattle.std.proofs.lemmas.Map.Views.{any-filter_same}
 use Rattle.scope_value.specs.Order.{row_cmp, row_eq-decides}
-use Rattle.logical_dag.specs.Rows.{Row, distinct}
+use Rattle.logical_trees.specs.Rows.{Row}
+use Rattle.list_lemmas.specs.Distinct.{distinct}
 
 -- one row in place of another that compares equal
 swapped : (j k r : Row) (b : Bool) → eq_by_cmp row_cmp k r ≡ true → eq_by_cmp row_cmp j r ≡ b → eq_by_cmp row_cmp j k ≡ b

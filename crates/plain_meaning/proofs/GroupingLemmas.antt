@@ -2,9 +2,9 @@
 use Rattle.std.proofs.Common.{◌≡◌, ℕ, List, [], ◌∷◌, ◌++◌, sym, ap, ap₂, ◌∙◌}
 use Rattle.std.proofs.lemmas.List.{map-append}
 use Rattle.scope_value.specs.declared.value.Value.{Value}
-use Rattle.logical_dag.specs.declared.agg.Agg.{Agg}
-use Rattle.logical_dag.specs.declared.args.GroupArgs.{GroupArgs}
-use Rattle.logical_dag.specs.Rows.{Row, Bag, with_key, group_row, rows_of_keys}
+use Rattle.logical_trees.specs.declared.agg.Agg.{Agg}
+use Rattle.logical_trees.specs.declared.args.GroupArgs.{GroupArgs}
+use Rattle.logical_trees.specs.Rows.{Row, Bag, with_key, group_row, rows_of_keys}
 
 -- one key more
 pub rows_step : (args : GroupArgs) (cols key : List ℕ) (value : Agg → Bag → Value) (keys front : List Row) (k row : Row) (rows group made more : Bag)

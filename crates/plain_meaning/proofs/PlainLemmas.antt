@@ -14,17 +14,14 @@ use Rattle.scope_value.specs.Order.{row_eq-decides}
 use Rattle.scope_value.proofs.SortedLemmas.{sorted_moves}
 use Rattle.structural_props.specs.Rows.{key_of, items}
 use Rattle.user_ops.specs.Told.{Operators}
-use Rattle.logical_dag.specs.declared.args.GroupArgs.{GroupArgs}
-use Rattle.logical_dag.specs.declared.args.TopArgs.{TopArgs}
-use Rattle.logical_dag.specs.declared.logic_op.LogicOp.{LogicOp}
-use Rattle.logical_dag.specs.Tree.{Expression, two, columns_of}
-use Rattle.logical_dag.specs.Rows.{Row, Bag, with_key, group_row, partial_value, partial_rows, first_rows, in_order}
-use Rattle.logical_dag.specs.Meaning.{Sources, GivesTwo, StandsFor}
+use Rattle.logical_trees.specs.declared.args.GroupArgs.{GroupArgs}
+use Rattle.logical_trees.specs.declared.args.TopArgs.{TopArgs}
+use Rattle.logical_trees.specs.declared.logic_op.LogicOp.{LogicOp}
+use Rattle.logical_trees.specs.Tree.{Expression, two, columns_of}
+use Rattle.logical_trees.specs.Rows.{Row, Bag, with_key, group_row, partial_value, partial_rows, first_rows, in_order}
+use Rattle.logical_trees.specs.Meaning.{Sources, GivesTwo, StandsFor}
+use Rattle.list_lemmas.specs.Bags.{same_permuted}
 use Rattle.plain_meaning.specs.Steps.{partial_row}
-
--- equal lists are one bag
-pub same_bag : {X : Type 0} (xs ys : List X) → ys ≡ xs → IsPermutation xs ys
-same_bag xs ys e = rw e (IsPermutation-refl xs)
 
 -- a part of one row has its partial row
 single_part : (args : GroupArgs) (cols : List ℕ) (r : Row) → partial_rows args cols (r ∷ []) ≡ partial_row args cols r ∷ []
@@ -44,7 +41,7 @@ pub single_parts : (args : GroupArgs) (cols : List ℕ) (A B : Bag) → B ≡ ma
 single_parts args cols A B e =
     let parts : List Bag = map (λ r. r ∷ []) A in
     let all : flat_map (λ part. part) parts ≡ A = flat_map-map (λ (part : Bag). part) (λ r. r ∷ []) A ∙ flat_map_single (λ (r : Row). r) A ∙ map-id A in
-    (parts, same_bag (flat_map (λ part. part) parts) A (sym all), same_bag (flat_map (partial_rows args cols) parts) B (e ∙ sym (each_single args cols A)))
+    (parts, same_permuted (flat_map (λ part. part) parts) A all, same_permuted (flat_map (partial_rows args cols) parts) B (each_single args cols A ∙ sym e))
 
 -- the first rows lie within the rows
 pub first_within : (args : TopArgs) (cols : List ℕ) (A B : Bag) → B ≡ first_rows args cols A
@@ -54,7 +51,7 @@ first_within args cols A B e =
       drop args.n s,
       [],
       rw (e, take-append-drop args.n s) (IsPermutation-sym A s (sorted_moves (keys_cmp (items cols args.order) true) A)),
-      same_bag (first_rows args cols A ++ []) B (e ∙ sym (append-nil (first_rows args cols A))),
+      same_permuted (first_rows args cols A ++ []) B (append-nil (first_rows args cols A) ∙ sym e),
     )
 
 -- what a node gives over bags that stand for its children stands for the whole

@@ -5,11 +5,11 @@ use Rattle.col_sets.specs.declared.dir.Dir.{Dir}
 use Rattle.col_sets.specs.Sets.{has}
 use Rattle.structural_props.specs.Rows.{value_at}
 use Rattle.user_ops.specs.Told.{Operators}
-use Rattle.logical_dag.specs.declared.logic_op.LogicOp.{LogicOp}
-use Rattle.logical_dag.specs.declared.logic_op.LogicOp.TheVariants.{Process, Reduce, Combine, Group, Top, Partial, Finish, LocalTop, LastTop}
-use Rattle.logical_dag.specs.Tree.{Expression, leaf, one, two}
-use Rattle.logical_dag.specs.Rows.{Row, Bag, row_over, agree_on, with_key, keys_among, in_order, order_of, left_columns, right_columns, keys_of_both}
-use Rattle.logical_dag.specs.Meaning.{Sources}
+use Rattle.logical_trees.specs.declared.logic_op.LogicOp.{LogicOp}
+use Rattle.logical_trees.specs.declared.logic_op.LogicOp.TheVariants.{Process, Reduce, Combine, Group, Top, Partial, Finish, LocalTop, LastTop}
+use Rattle.logical_trees.specs.Tree.{Expression, leaf, one, two}
+use Rattle.logical_trees.specs.Rows.{Row, Bag, row_over, agree_on, with_key, keys_among, in_order, order_of, left_columns, right_columns, keys_of_both}
+use Rattle.logical_trees.specs.Meaning.{Sources}
 
 -- the values of two rows in these columns, the left row's where it has the column
 abbrev pub merged_over : List ℕ → List ℕ → List ℕ → Row → Row → Row

@@ -3,9 +3,9 @@ use Rattle.std.specs.Prelude.{ℕ, List, [], ◌∷◌, if◌then◌else◌}
 use Rattle.col_sets.specs.Sets.{has}
 use Rattle.scope_value.specs.declared.value.Value.{Value}
 use Rattle.structural_props.specs.Rows.{value_at, key_of}
-use Rattle.logical_dag.specs.declared.agg.Agg.{Agg}
-use Rattle.logical_dag.specs.declared.args.GroupArgs.{GroupArgs}
-use Rattle.logical_dag.specs.Rows.{Row, Bag, agg_at, group_row, whole_value, partial_value, finished_value}
+use Rattle.logical_trees.specs.declared.agg.Agg.{Agg}
+use Rattle.logical_trees.specs.declared.args.GroupArgs.{GroupArgs}
+use Rattle.logical_trees.specs.Rows.{Row, Bag, agg_at, group_row, whole_value, partial_value, finished_value}
 use Rattle.plain_meaning.specs.declared.grouping.Step.{Step}
 use Rattle.plain_meaning.specs.declared.grouping.Step.TheVariants.{Whole, Finish}
 

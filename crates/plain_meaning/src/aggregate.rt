@@ -4,14 +4,14 @@ ghost use Rattle.scope_value.specs.Keys.{directed};
 ghost use Rattle.scope_value.specs.Order.{value_cmp};
 ghost use Rattle.scope_expr.specs.Value as expr;
 ghost use Rattle.structural_props.specs.Rows as at;
-ghost use Rattle.logical_dag.specs.Rows.{summed, exact, together, to_long, fitted};
-ghost use Rattle.logical_dag.specs.Rows as spec;
-ghost use Rattle.logical_dag.specs.First as first;
+ghost use Rattle.logical_trees.specs.Rows.{summed, exact, together, to_long, fitted};
+ghost use Rattle.logical_trees.specs.Rows as spec;
+ghost use Rattle.logical_trees.specs.First as first;
 
 use crate::exact_sum::{number, total};
 use crate::keyed::value_at;
 use col_sets::{ColId, ColSet};
-use logical_dag::Agg;
+use logical_trees::Agg;
 use scope_expr::{AggKind, Expr, eval};
 use scope_value::{Row, Value};
 use std::alloc::{AllocError, Global};

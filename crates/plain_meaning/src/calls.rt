@@ -2,14 +2,14 @@
 ghost use Rattle.std.specs.Prelude.{◌≡◌, ◌++◌, ◌<◌, length, map, flat_map, IfOk, OnOk};
 ghost use Rattle.user_ops.specs.Told.{processes_at};
 ghost use Rattle.structural_props.specs.Rows.{key_of};
-ghost use Rattle.logical_dag.specs.Rows.{with_key};
-ghost use Rattle.logical_dag.specs.Rows as spec;
+ghost use Rattle.logical_trees.specs.Rows.{with_key};
+ghost use Rattle.logical_trees.specs.Rows as spec;
 ghost use Rattle.plain_meaning.specs.Plain.{group_at, reduced_by, combined_by};
 
 use crate::keyed::{distinct_rows, keys_among, keys_of, rows_with_key};
 use crate::orders::{order_of, rows_in_order};
 use col_sets::{ColId, ColSet, KeyOrders};
-use logical_dag::CallArgs;
+use logical_trees::CallArgs;
 use scope_value::{Cell, Row};
 use std::alloc::{AllocError, Global};
 use user_ops::{Combiner, OpSet, Processor, Reducer, Tells};

@@ -1,7 +1,7 @@
 // Exact sums of values. A sum of partial sums may be beyond the 128 bits that each of them has.
 ghost use Rattle.std.specs.Prelude.{◌≡◌, ◌≤ℤ◌, ◌<ℤ◌, ◌+ℤ◌, ◌-ℤ◌, ◌^◌, pos, neg_ℤ};
 ghost use Rattle.scope_expr.specs.Value.{in_range};
-ghost use Rattle.logical_dag.specs.Rows.{total};
+ghost use Rattle.logical_trees.specs.Rows.{total};
 ghost use Rattle.plain_meaning.specs.Sums.{sum_of};
 ghost use Rattle.scope_value.specs.Order as order;
 

@@ -1,14 +1,14 @@
 // The rows of a Group and of its two steps: each key, each column and each aggregate passes over its rows anew.
 ghost use Rattle.std.specs.Prelude.{◌≡◌, [], ◌∷◌, map, IfOk};
-ghost use Rattle.logical_dag.specs.Rows.{grouped, finished, agg_at};
-ghost use Rattle.logical_dag.specs.Rows as spec;
+ghost use Rattle.logical_trees.specs.Rows.{grouped, finished, agg_at};
+ghost use Rattle.logical_trees.specs.Rows as spec;
 ghost use Rattle.plain_meaning.specs.Steps.{value_in, value_of, partial_row};
 
 use crate::aggregate::{finished_value, partial_value, whole_value};
 use crate::columns::columns_in;
 use crate::keyed::{key_of, keys_among, rows_with_key, value_at};
 use col_sets::{ColId, ColSet};
-use logical_dag::{Agg, GroupArgs, group_columns};
+use logical_trees::{Agg, GroupArgs, group_columns};
 use scope_value::{Row, Value};
 use std::alloc::{AllocError, Global};
 

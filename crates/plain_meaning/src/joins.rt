@@ -1,6 +1,6 @@
 // Pairs of rows that agree.
 ghost use Rattle.std.specs.Prelude.{◌≡◌, IfOk};
-ghost use Rattle.logical_dag.specs.Rows as spec;
+ghost use Rattle.logical_trees.specs.Rows as spec;
 ghost use Rattle.plain_meaning.specs.Plain.{merged_over, partners, joined_over};
 
 use crate::columns::columns_in;

@@ -1,7 +1,7 @@
 // What the kinds with one child do with the rows below, each by going once through the whole list.
 ghost use Rattle.std.specs.Prelude.{◌≡◌, map, filter, IfOk};
 ghost use Rattle.scope_expr.specs.Value as expr;
-ghost use Rattle.logical_dag.specs.Rows as spec;
+ghost use Rattle.logical_trees.specs.Rows as spec;
 
 use col_sets::ColSet;
 use scope_expr::{Expr, eval, holds};

@@ -1,8 +1,9 @@
 // Rows by the values in the columns of a key.
 ghost use Rattle.std.specs.Prelude.{◌≡◌, map, IfOk};
 ghost use Rattle.structural_props.specs.Rows.{value_at, key_of};
-ghost use Rattle.logical_dag.specs.Rows as spec;
-ghost use Rattle.logical_dag.specs.Rows.{distinct, with_key};
+ghost use Rattle.logical_trees.specs.Rows as spec;
+ghost use Rattle.list_lemmas.specs.Distinct.{distinct};
+ghost use Rattle.logical_trees.specs.Rows.{with_key};
 
 use col_sets::{ColId, ColSet};
 use scope_value::{Row, Value};

@@ -1,7 +1,7 @@
 //! The plain program of what expressions mean.
 //!
 //! [`plain_bag`] computes a bag that stands for an expression, each kind by going through the whole lists below it. It is
-//! slow, and short enough to read beside the definition in `logical_dag`.
+//! slow, and short enough to read beside the definition in `logical_trees`.
 #![tactic(auto)]
 
 mod aggregate;

@@ -2,11 +2,11 @@
 ghost use Rattle.std.specs.Prelude.{◌≡◌, true, IfOk};
 ghost use Rattle.scope_value.specs.Keys.{keys_cmp};
 ghost use Rattle.structural_props.specs.Rows.{column_cmp, items};
-ghost use Rattle.logical_dag.specs.Rows as spec;
+ghost use Rattle.logical_trees.specs.Rows as spec;
 
 use crate::compare::compare_in;
 use col_sets::{ColId, ColSet, Dir, KeyOrders};
-use logical_dag::TopArgs;
+use logical_trees::TopArgs;
 use scope_value::Row;
 use std::alloc::{AllocError, Global};
 use std::cmp::Ordering;

@@ -1,9 +1,9 @@
 // A bag that stands for an expression, by the plain program of its meaning: each kind filters the whole lists below it.
 ghost use Rattle.std.specs.Prelude.{◌≡◌, map, nat_eq, is_some, IfOk, IfSome};
-ghost use Rattle.logical_dag.specs.Tree.{tree_of};
-ghost use Rattle.logical_dag.specs.Formed.{arity, has_children};
-ghost use Rattle.logical_dag.specs.Meaning.{GivesLeaf, GivesOne, GivesTwo, StandsFor};
-ghost use Rattle.logical_dag.specs.Meaning as spec;
+ghost use Rattle.logical_trees.specs.Tree.{tree_of};
+ghost use Rattle.logical_trees.specs.Formed.{arity, has_children};
+ghost use Rattle.logical_trees.specs.Meaning.{GivesLeaf, GivesOne, GivesTwo, StandsFor};
+ghost use Rattle.logical_trees.specs.Meaning as spec;
 ghost use Rattle.user_ops.specs.Told.{Operators};
 ghost use Rattle.plain_meaning.specs.Plain.{sources, is_step, IsThere, AreThere};
 
@@ -13,7 +13,7 @@ use crate::joins::joined_rows;
 use crate::kernels::{filtered_rows, projected_rows};
 use crate::orders::{copied_rows, first_rows};
 use col_sets::ColSet;
-use logical_dag::{LogicOp, Logical, columns_of};
+use logical_trees::{LogicOp, Logical, columns_of};
 use scope_value::Row;
 use std::alloc::{AllocError, Global};
 use user_ops::{OpSet, Tells};

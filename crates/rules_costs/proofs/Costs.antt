@@ -3,9 +3,9 @@ use Rattle.std.proofs.Common.{◌≡◌, ◌+◌, ℕ, Bool, true, false, sym, a
 use Rattle.fd_closure.specs.declared.facts.Facts.{Facts}
 use Rattle.structural_props.specs.declared.property.Delivered.{Delivered}
 use Rattle.logical_dag.specs.declared.place.Place.{Place as DagPlace}
-use Rattle.logical_dag.specs.declared.logic_op.LogicOp.{LogicOp}
-use Rattle.logical_dag.specs.declared.logic_op.LogicOp.TheVariants.{Scan, Ref}
-use Rattle.logical_dag.specs.Tree.{Expression, leaf, one, two}
+use Rattle.logical_trees.specs.declared.logic_op.LogicOp.{LogicOp}
+use Rattle.logical_trees.specs.declared.logic_op.LogicOp.TheVariants.{Scan, Ref}
+use Rattle.logical_trees.specs.Tree.{Expression, leaf, one, two}
 use Rattle.parts_plans.specs.Kinds.{PlanKind, scan, ref}
 use Rattle.parts_plans.specs.Plans.{Plan, Env, Delivers}
 use Rattle.rules_plans.specs.Laws.{is_enforcer}

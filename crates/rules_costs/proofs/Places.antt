@@ -3,12 +3,12 @@ use Rattle.std.proofs.Common.{◌≡◌, ◌+◌, ◌*◌, ◌/◌, ◌%◌, ℕ
 use Rattle.std.proofs.lemmas.Bool.Decides.{nat_tests}
 use Rattle.std.proofs.lemmas.List.Sorted.{IsPermutation-map}
 use Rattle.structural_props.specs.Actions.{In}
-use Rattle.logical_dag.specs.declared.logic_op.LogicOp.TheVariants.{Group, Top}
+use Rattle.logical_trees.specs.declared.logic_op.LogicOp.TheVariants.{Group, Top}
 use Rattle.logical_dag.specs.declared.place.PlacePart.{PlacePart}
 use Rattle.logical_dag.specs.declared.place.PlacePart.TheVariants.{Whole as AllOf, Leaves as SomeLeaves, Lower}
-use Rattle.logical_dag.specs.Tree.{Expression, one, nodes}
-use Rattle.logical_dag.specs.Formed.{IsFormed}
-use Rattle.logical_dag.specs.Places.{block_pairs, chosen}
+use Rattle.logical_trees.specs.Tree.{Expression, one, nodes}
+use Rattle.logical_trees.specs.Formed.{IsFormed}
+use Rattle.logical_trees.specs.Blocks.{block_pairs, chosen}
 use Rattle.rules_shapes.specs.Shapes.{size, Shape, top_number, numbered_leaves, IsShaped}
 use Rattle.rules_optimal.specs.Places.{tops, numbered, HasNumbers}
 use Rattle.rules_sizes.specs.Sizes.{Size, Sizes, join_size, leaf_sizes}

@@ -3,9 +3,9 @@ use Rattle.std.specs.Prelude.{◌≡◌, ◌+◌, ◌-◌, ◌*◌, ◌/◌, ℕ
 use Rattle.structural_props.specs.declared.scheme.Scheme.{Scheme}
 use Rattle.structural_props.specs.declared.scheme.Scheme.TheVariants.{Serial}
 use Rattle.structural_props.specs.declared.property.Delivered.{Delivered}
-use Rattle.logical_dag.specs.declared.logic_op.LogicOp.{LogicOp}
-use Rattle.logical_dag.specs.declared.logic_op.LogicOp.TheVariants.{Scan, Ref}
-use Rattle.logical_dag.specs.Tree.{Expression, leaf, one, two}
+use Rattle.logical_trees.specs.declared.logic_op.LogicOp.{LogicOp}
+use Rattle.logical_trees.specs.declared.logic_op.LogicOp.TheVariants.{Scan, Ref}
+use Rattle.logical_trees.specs.Tree.{Expression, leaf, one, two}
 use Rattle.logical_dag.specs.Facts.{result_columns}
 use Rattle.parts_nodes.specs.Frame.{is_copies}
 use Rattle.parts_nodes.specs.Tables.{width}

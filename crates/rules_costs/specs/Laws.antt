@@ -5,8 +5,8 @@ use Rattle.structural_props.specs.declared.property.Delivered.{Delivered}
 use Rattle.structural_props.specs.Actions.{In}
 use Rattle.logical_dag.specs.declared.dag.Dag.{Dag}
 use Rattle.logical_dag.specs.declared.place.Place.{Place as DagPlace}
-use Rattle.logical_dag.specs.Tree.{Expression}
-use Rattle.logical_dag.specs.Formed.{IsFormed}
+use Rattle.logical_trees.specs.Tree.{Expression}
+use Rattle.logical_trees.specs.Formed.{IsFormed}
 use Rattle.logical_dag.specs.Scripts.{all_trees}
 use Rattle.parts_plans.specs.Plans.{Plan, Env}
 use Rattle.rules_shapes.specs.Shapes.{Shape, top_number, IsShaped}

@@ -4,8 +4,8 @@ use Rattle.logical_dag.specs.declared.dag.Dag.{Dag}
 use Rattle.logical_dag.specs.declared.place.Place.{Place as DagPlace}
 use Rattle.logical_dag.specs.declared.place.PlacePart.{PlacePart}
 use Rattle.logical_dag.specs.declared.place.PlacePart.TheVariants.{Whole as AllOf, Leaves as SomeLeaves, Lower}
-use Rattle.logical_dag.specs.Tree.{Expression, one, nodes}
-use Rattle.logical_dag.specs.Places.{block_pairs, chosen}
+use Rattle.logical_trees.specs.Tree.{Expression, one, nodes}
+use Rattle.logical_trees.specs.Blocks.{block_pairs, chosen}
 use Rattle.logical_dag.specs.Scripts.{shared_trees}
 use Rattle.rules_shapes.specs.Shapes.{size, top_number, numbered_leaves}
 use Rattle.rules_optimal.specs.Places.{numbered}

@@ -1,7 +1,7 @@
 -- Examples: estimates of two joins and of a count.
 use Rattle.std.specs.Prelude.{◌≡◌, []}
-use Rattle.logical_dag.specs.declared.logic_op.LogicOp.TheVariants.{Group, Partial}
-use Rattle.logical_dag.specs.Tree.{one}
+use Rattle.logical_trees.specs.declared.logic_op.LogicOp.TheVariants.{Group, Partial}
+use Rattle.logical_trees.specs.Tree.{one}
 use Rattle.rules_shapes.specs.Worked.{counting, two_joined, three_joined}
 use Rattle.rules_sizes.specs.Sizes.{Sizes, size_of}
 

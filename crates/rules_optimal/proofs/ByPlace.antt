@@ -7,19 +7,19 @@ use Rattle.col_sets.specs.Tests.{or_left, or_right}
 use Rattle.col_sets.specs.Tests as tests
 use Rattle.structural_props.specs.Actions.{In}
 use Rattle.structural_props.specs.KeptLemmas.{in_append, in_left, in_right}
-use Rattle.logical_dag.specs.declared.args.GroupArgs.{GroupArgs}
-use Rattle.logical_dag.specs.declared.args.TopArgs.{TopArgs}
-use Rattle.logical_dag.specs.declared.logic_op.LogicOp.{LogicOp}
-use Rattle.logical_dag.specs.declared.logic_op.LogicOp.TheVariants.{Join, Group, Top, Partial, Finish, LocalTop, LastTop}
-use Rattle.logical_dag.specs.Tree.{Expression, leaf, one, two, columns_of}
-use Rattle.logical_dag.specs.Formed.{IsFormed}
+use Rattle.logical_trees.specs.declared.args.GroupArgs.{GroupArgs}
+use Rattle.logical_trees.specs.declared.args.TopArgs.{TopArgs}
+use Rattle.logical_trees.specs.declared.logic_op.LogicOp.{LogicOp}
+use Rattle.logical_trees.specs.declared.logic_op.LogicOp.TheVariants.{Join, Group, Top, Partial, Finish, LocalTop, LastTop}
+use Rattle.logical_trees.specs.Tree.{Expression, leaf, one, two, columns_of}
+use Rattle.logical_trees.specs.Formed.{IsFormed}
 use Rattle.logical_dag.specs.Facts.{AreFactsOf}
-use Rattle.logical_dag.specs.Places.{block_pairs, IsPairing}
-use Rattle.logical_dag.proofs.Bags.{same_permuted}
-use Rattle.logical_dag.proofs.RowValues.{in_list, list_in}
-use Rattle.logical_dag.proofs.Leaves.{AreApart, apart_left, apart_right, apart_permuted}
-use Rattle.logical_dag.proofs.JoinFacts.{join_formed}
-use Rattle.logical_dag.proofs.Blocks.{block_apart}
+use Rattle.logical_trees.specs.Blocks.{block_pairs, IsPairing}
+use Rattle.list_lemmas.specs.Bags.{same_permuted}
+use Rattle.list_lemmas.specs.Members.{in_list, list_in}
+use Rattle.logical_trees.specs.LeafLemmas.{AreApart, apart_left, apart_right, apart_permuted}
+use Rattle.logical_trees.specs.JoinLemmas.{join_formed}
+use Rattle.logical_trees.specs.BlockLemmas.{block_apart}
 use Rattle.rules_steps.specs.Steps.{Pairs, IsDealt, Reaches, here, after}
 use Rattle.rules_steps.specs.Steps as steps
 use Rattle.rules_facts.proofs.Known.{facts_kept}

@@ -4,12 +4,12 @@ use Rattle.fd_closure.specs.declared.facts.Facts.{Facts}
 use Rattle.structural_props.specs.Actions.{In as Has}
 use Rattle.structural_props.specs.declared.property.Delivered.{Delivered}
 use Rattle.prop_matching.specs.Worth.{matches_by}
-use Rattle.logical_dag.specs.declared.logic_op.LogicOp.{LogicOp}
-use Rattle.logical_dag.specs.declared.logic_op.LogicOp.TheVariants.{Join}
-use Rattle.logical_dag.specs.Tree.{Expression, leaf, one, two, columns_of}
+use Rattle.logical_trees.specs.declared.logic_op.LogicOp.{LogicOp}
+use Rattle.logical_trees.specs.declared.logic_op.LogicOp.TheVariants.{Join}
+use Rattle.logical_trees.specs.Tree.{Expression, leaf, one, two, columns_of}
 use Rattle.logical_dag.specs.Facts.{AreFactsOf}
-use Rattle.logical_dag.specs.Places.{IsPairing}
-use Rattle.logical_dag.proofs.RowValues.{in_list, list_in}
+use Rattle.logical_trees.specs.Blocks.{IsPairing}
+use Rattle.list_lemmas.specs.Members.{in_list, list_in}
 use Rattle.parts_nodes.specs.Tables.{width}
 use Rattle.parts_plans.specs.Kinds.{PlanKind, hash_any, hash_merge, range_any, one_any, one_merge, one_concat, sort, broadcast, hash_join, merge_join, one_fits, one_needs, one_delivers, TwoFits, HasPlace, left_needs, right_needs, two_delivers}
 use Rattle.parts_plans.specs.Plans.{Plan, Env, StepDelivers, Delivers}

@@ -5,15 +5,15 @@ use Rattle.fd_closure.specs.declared.facts.Facts.{Facts}
 use Rattle.structural_props.specs.Actions.{In}
 use Rattle.structural_props.specs.KeptLemmas.{in_left}
 use Rattle.std.proofs.lemmas.List.{length-map}
-use Rattle.logical_dag.specs.declared.logic_op.LogicOp.{LogicOp}
-use Rattle.logical_dag.specs.declared.logic_op.LogicOp.TheVariants.{Group, Top}
-use Rattle.logical_dag.specs.Tree.{Expression, one}
+use Rattle.logical_trees.specs.declared.logic_op.LogicOp.{LogicOp}
+use Rattle.logical_trees.specs.declared.logic_op.LogicOp.TheVariants.{Group, Top}
+use Rattle.logical_trees.specs.Tree.{Expression, one}
 use Rattle.logical_dag.specs.Facts.{AreFactsOf}
-use Rattle.logical_dag.specs.Places.{IsJoinOf}
-use Rattle.logical_dag.specs.Places as joins
+use Rattle.logical_trees.specs.Blocks.{IsJoinOf}
+use Rattle.logical_trees.specs.Blocks as joins
 use Rattle.logical_dag.specs.Scripts.{top_of}
 use Rattle.rules_shapes.specs.Worked.{two_joined}
-use Rattle.logical_dag.proofs.RowValues.{in_list, list_in}
+use Rattle.list_lemmas.specs.Members.{in_list, list_in}
 use Rattle.rules_places.specs.Space.{is_block}
 use Rattle.rules_shapes.specs.Shapes.{top_number, numbered_leaves}
 use Rattle.rules_optimal.specs.Places.{numbered, HasNumbers}

@@ -1,8 +1,8 @@
 -- What bounds of groups say of plans, as facts.
 use Rattle.std.specs.Prelude.{◌≡◌, ◌≤◌, ℕ, Bool, true, List}
 use Rattle.structural_props.specs.declared.property.Delivered.{Delivered}
-use Rattle.logical_dag.specs.Tree.{Expression}
-use Rattle.logical_dag.specs.Formed.{IsFormed}
+use Rattle.logical_trees.specs.Tree.{Expression}
+use Rattle.logical_trees.specs.Formed.{IsFormed}
 use Rattle.parts_plans.specs.Plans.{Plan, Delivers}
 use Rattle.rules_steps.specs.Steps.{Reaches}
 use Rattle.rules_shapes.specs.Shapes.{Shape, shape_of, IsShaped, IsScriptOf, IsJustScriptOf}

@@ -1,13 +1,13 @@
 -- A table that has the facts at the places of a script's tree.
 use Rattle.std.specs.Prelude.{◌≡◌, ◌↔◌, ◌+◌, ℕ, Bool, true, false, if◌then◌else◌, List, [], ◌∷◌, ◌++◌, map, IsPermutation}
 use Rattle.structural_props.specs.Actions.{In}
-use Rattle.logical_dag.specs.declared.args.GroupArgs.{GroupArgs}
-use Rattle.logical_dag.specs.declared.args.TopArgs.{TopArgs}
-use Rattle.logical_dag.specs.declared.logic_op.LogicOp.TheVariants.{Join, Group, Top, Partial, Finish, LocalTop, LastTop}
-use Rattle.logical_dag.specs.Tree.{Expression, leaf, one, two}
+use Rattle.logical_trees.specs.declared.args.GroupArgs.{GroupArgs}
+use Rattle.logical_trees.specs.declared.args.TopArgs.{TopArgs}
+use Rattle.logical_trees.specs.declared.logic_op.LogicOp.TheVariants.{Join, Group, Top, Partial, Finish, LocalTop, LastTop}
+use Rattle.logical_trees.specs.Tree.{Expression, leaf, one, two}
 use Rattle.logical_dag.specs.Scripts.{top_of}
 use Rattle.logical_dag.specs.Facts.{AreFactsOf}
-use Rattle.logical_dag.specs.Places.{block_pairs, IsJoinOf}
+use Rattle.logical_trees.specs.Blocks.{block_pairs, IsJoinOf}
 use Rattle.rules_places.specs.Space.{is_block}
 use Rattle.rules_shapes.specs.Shapes.{size, top_number, numbered_leaves}
 use Rattle.rules_optimal.specs.Tables.{PlaceTable}

@@ -1,11 +1,11 @@
 -- An example: a table for a join of two streams.
 use Rattle.std.specs.Prelude.{ℕ, zero, suc, if◌then◌else◌, List, [], ◌∷◌}
 use Rattle.fd_closure.specs.declared.facts.Facts.{Facts}
-use Rattle.logical_dag.specs.declared.logic_op.LogicOp.{LogicOp}
-use Rattle.logical_dag.specs.declared.logic_op.LogicOp.TheVariants.{Scan}
-use Rattle.logical_dag.specs.Tree.{Expression, leaf}
+use Rattle.logical_trees.specs.declared.logic_op.LogicOp.{LogicOp}
+use Rattle.logical_trees.specs.declared.logic_op.LogicOp.TheVariants.{Scan}
+use Rattle.logical_trees.specs.Tree.{Expression, leaf}
 use Rattle.logical_dag.specs.Facts.{AreFactsOf}
-use Rattle.logical_dag.specs.Places.{IsJoinOf}
+use Rattle.logical_trees.specs.Blocks.{IsJoinOf}
 use Rattle.rules_shapes.specs.Worked.{two_joined}
 use Rattle.rules_optimal.specs.Tables.{PlaceTable}
 use Rattle.rules_optimal.specs.Places.{IsTableOf}

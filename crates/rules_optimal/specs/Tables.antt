@@ -9,10 +9,10 @@ use Rattle.structural_props.specs.Rows.{range_columns}
 use Rattle.structural_props.specs.Kept.{sorted_actions}
 use Rattle.prop_matching.specs.Worth.{matches_by}
 use Rattle.structural_props.specs.declared.property.Delivered.{Delivered}
-use Rattle.logical_dag.specs.declared.logic_op.LogicOp.{LogicOp}
-use Rattle.logical_dag.specs.Tree.{Expression, leaf, one, two, columns_of}
+use Rattle.logical_trees.specs.declared.logic_op.LogicOp.{LogicOp}
+use Rattle.logical_trees.specs.Tree.{Expression, leaf, one, two, columns_of}
 use Rattle.logical_dag.specs.Facts.{AreFactsOf}
-use Rattle.logical_dag.specs.Places.{IsPairing}
+use Rattle.logical_trees.specs.Blocks.{IsPairing}
 use Rattle.parts_nodes.specs.Frame.{IsDealt}
 use Rattle.parts_nodes.specs.Tables.{width, orders_of, has_rest}
 use Rattle.parts_plans.specs.Kinds.{PlanKind, hash_any, hash_merge, range_any, one_any, one_merge, one_concat, sort, broadcast, one_fits, one_needs, one_delivers, TwoFits, HasPlace, left_needs, right_needs, two_delivers}

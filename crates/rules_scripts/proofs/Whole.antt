@@ -2,7 +2,7 @@
 use Rattle.std.proofs.Common.{◌≡◌, ◌<◌, ◌≤◌, ℕ, zero, suc, List, arith, Some, slice_get}
 use Rattle.structural_props.specs.declared.scheme.Scheme.{Scheme}
 use Rattle.structural_props.specs.declared.property.Delivered.{Delivered}
-use Rattle.logical_dag.specs.Tree.{Expression}
+use Rattle.logical_trees.specs.Tree.{Expression}
 use Rattle.logical_dag.specs.Scripts.{all_trees, IsBindable}
 use Rattle.logical_dag.proofs.Placed.{shared_columns, tree_formed}
 use Rattle.parts_plans.specs.Plans.{Plan, Delivers}

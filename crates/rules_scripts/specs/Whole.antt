@@ -5,7 +5,7 @@ use Rattle.structural_props.specs.declared.scheme.Scheme.{Scheme}
 use Rattle.structural_props.specs.declared.property.Delivered.{Delivered}
 use Rattle.logical_dag.specs.declared.dag.Dag.{Dag}
 use Rattle.logical_dag.specs.declared.place.Place.{Place as DagPlace}
-use Rattle.logical_dag.specs.Tree.{Expression}
+use Rattle.logical_trees.specs.Tree.{Expression}
 use Rattle.logical_dag.specs.Scripts.{shared_trees, all_trees}
 use Rattle.parts_plans.specs.Kinds.{Stream}
 use Rattle.parts_plans.specs.Plans.{Plan, Env, Delivers}

@@ -8,11 +8,11 @@ use Rattle.col_sets.specs.Columns.{union_has}
 use Rattle.col_sets.specs.Tests.{or_left, or_right, and_true}
 use Rattle.structural_props.specs.Actions.{In}
 use Rattle.structural_props.specs.KeptLemmas.{in_left, in_right}
-use Rattle.logical_dag.specs.declared.logic_op.LogicOp.TheVariants.{Join}
-use Rattle.logical_dag.specs.Tree.{Expression, leaf, one, two, columns_of}
-use Rattle.logical_dag.specs.Places.{block_leaves, block_pairs, IsAcross}
-use Rattle.logical_dag.proofs.Leaves.{HasColumn}
-use Rattle.logical_dag.proofs.RowValues.{in_list, list_in}
+use Rattle.logical_trees.specs.declared.logic_op.LogicOp.TheVariants.{Join}
+use Rattle.logical_trees.specs.Tree.{Expression, leaf, one, two, columns_of}
+use Rattle.logical_trees.specs.Blocks.{block_leaves, block_pairs, IsAcross}
+use Rattle.logical_trees.specs.LeafLemmas.{HasColumn}
+use Rattle.list_lemmas.specs.Members.{in_list, list_in, in_moved}
 use Rattle.rules_steps.specs.Steps.{Pairs, IsDealt}
 use Rattle.rules_steps.proofs.Kept.{reached_same}
 use Rattle.rules_places.specs.Space as space
@@ -65,9 +65,6 @@ module _ (results : List (List ℕ)) (S : Script) where
     pub are : AreLeaves results pairs (leaves_of leaves)
     pub ties : AreTied S pairs leaves
     pub scripts : (v : ℕ × Expression) → In v leaves → IsScriptOf S v.0 v.1
-
-  in_moved : (x : ℕ × Expression) (xs ys : List (ℕ × Expression)) → IsPermutation xs ys → In x xs → In x ys
-  in_moved x xs ys p h = in_list ys x (Contains-permutation xs ys x p (list_in xs x h))
 
   module _ (pairs : List (ℕ × ℕ)) (before beside all : List (ℕ × Expression)) (p : IsPermutation (before ++ beside) all) (h : AreKnots pairs all) where
     pub left_in : (v : ℕ × Expression) → In v before → In v all

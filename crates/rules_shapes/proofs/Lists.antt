@@ -5,9 +5,9 @@ use Rattle.col_sets.specs.Sets.{has}
 use Rattle.col_sets.specs.Tests.{both, and_true, either}
 use Rattle.structural_props.specs.Actions.{In}
 use Rattle.structural_props.specs.KeptLemmas.{in_append, in_left, in_right}
-use Rattle.logical_dag.specs.Tree.{Expression, columns_of}
-use Rattle.logical_dag.specs.Places.{IsAcross}
-use Rattle.logical_dag.proofs.RowValues.{in_list, list_in}
+use Rattle.logical_trees.specs.Tree.{Expression, columns_of}
+use Rattle.logical_trees.specs.Blocks.{IsAcross}
+use Rattle.list_lemmas.specs.Members.{in_list, list_in}
 use Rattle.rules_steps.specs.Steps.{IsDealt}
 use Rattle.rules_space.specs.Place.{Leaves, linked_by}
 

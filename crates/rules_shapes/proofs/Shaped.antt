@@ -4,16 +4,16 @@ use Rattle.std.proofs.lemmas.List.Sorted.{IsPermutation-refl, IsPermutation-tran
 use Rattle.col_sets.specs.Columns.{union_has}
 use Rattle.structural_props.specs.Actions.{In}
 use Rattle.structural_props.specs.KeptLemmas.{in_append}
-use Rattle.logical_dag.specs.declared.args.GroupArgs.{GroupArgs}
-use Rattle.logical_dag.specs.declared.args.TopArgs.{TopArgs}
-use Rattle.logical_dag.specs.declared.logic_op.LogicOp.{LogicOp}
-use Rattle.logical_dag.specs.declared.logic_op.LogicOp.TheVariants.{Join, Group, Top, Partial, Finish, LocalTop, LastTop}
-use Rattle.logical_dag.specs.Tree.{Expression, leaf, one, two, columns_of}
-use Rattle.logical_dag.specs.Formed.{IsFormed}
-use Rattle.logical_dag.specs.Places.{block_pairs}
-use Rattle.logical_dag.proofs.Bags.{same_permuted}
-use Rattle.logical_dag.proofs.KnownColumns.{into_union}
-use Rattle.logical_dag.proofs.Leaves.{HasColumn}
+use Rattle.logical_trees.specs.declared.args.GroupArgs.{GroupArgs}
+use Rattle.logical_trees.specs.declared.args.TopArgs.{TopArgs}
+use Rattle.logical_trees.specs.declared.logic_op.LogicOp.{LogicOp}
+use Rattle.logical_trees.specs.declared.logic_op.LogicOp.TheVariants.{Join, Group, Top, Partial, Finish, LocalTop, LastTop}
+use Rattle.logical_trees.specs.Tree.{Expression, leaf, one, two, columns_of}
+use Rattle.logical_trees.specs.Formed.{IsFormed}
+use Rattle.logical_trees.specs.Blocks.{block_pairs}
+use Rattle.list_lemmas.specs.Bags.{same_permuted}
+use Rattle.logical_trees.specs.ColumnLemmas.{into_union}
+use Rattle.logical_trees.specs.LeafLemmas.{HasColumn}
 use Rattle.rules_steps.specs.Steps.{Pairs, IsDealt, Rule, commute, associate, split_group, split_top, Step, here, below, on_left, on_right, Reaches, stays, after}
 use Rattle.rules_steps.proofs.Kept.{step_same, step_formed}
 use Rattle.rules_places.specs.Space.{is_join, is_block}

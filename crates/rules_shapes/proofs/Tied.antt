@@ -1,9 +1,9 @@
 -- Each Join of a shape has a tie between its children.
 use Rattle.std.proofs.Common.{◌+◌, ℕ, List, inl, refl}
-use Rattle.logical_dag.specs.declared.logic_op.LogicOp.TheVariants.{Join}
-use Rattle.logical_dag.specs.Tree.{Expression, two}
-use Rattle.logical_dag.specs.Formed.{IsFormed}
-use Rattle.logical_dag.specs.Places.{block_pairs}
+use Rattle.logical_trees.specs.declared.logic_op.LogicOp.TheVariants.{Join}
+use Rattle.logical_trees.specs.Tree.{Expression, two}
+use Rattle.logical_trees.specs.Formed.{IsFormed}
+use Rattle.logical_trees.specs.Blocks.{block_pairs}
 use Rattle.rules_shapes.specs.Shapes.{Shape, size, numbered_leaves, IsShaped, of_leaf, of_one, of_group, of_top, of_two, of_join, IsKnit, alone, both, IsScriptOf, AllLinked}
 use Rattle.rules_shapes.proofs.Knit.{AreKnots, left_in, right_in, left_knots, right_knots, shapes_linked}
 use Rattle.rules_shapes.proofs.Shaped.{below_script, two_scripts, block_knots}

@@ -1,7 +1,7 @@
 -- Expressions with the trees of groups that stand for them, as facts.
 use Rattle.std.specs.Prelude.{ℕ, List}
-use Rattle.logical_dag.specs.Tree.{Expression}
-use Rattle.logical_dag.specs.Formed.{IsFormed}
+use Rattle.logical_trees.specs.Tree.{Expression}
+use Rattle.logical_trees.specs.Formed.{IsFormed}
 use Rattle.rules_steps.specs.Steps.{Step, Reaches}
 use Rattle.rules_shapes.specs.Shapes.{Shape, shape_of, IsShaped, IsScriptOf, IsJustScriptOf, AllLinked}
 use Rattle.rules_space.specs.Place.{Script}

@@ -2,12 +2,12 @@
 use Rattle.std.specs.Prelude.{◌≡◌, ◌+◌, ◌⊎◌, Bool, ℕ, true, false, List, [], ◌∷◌, ◌++◌, IsPermutation, Contains}
 use Rattle.col_sets.specs.Sets.{has}
 use Rattle.structural_props.specs.Actions.{In}
-use Rattle.logical_dag.specs.declared.args.GroupArgs.{GroupArgs}
-use Rattle.logical_dag.specs.declared.args.TopArgs.{TopArgs}
-use Rattle.logical_dag.specs.declared.logic_op.LogicOp.{LogicOp}
-use Rattle.logical_dag.specs.declared.logic_op.LogicOp.TheVariants.{Join, Group, Top, Partial, Finish, LocalTop, LastTop}
-use Rattle.logical_dag.specs.Tree.{Expression, leaf, one, two, columns_of}
-use Rattle.logical_dag.specs.Places.{block_pairs}
+use Rattle.logical_trees.specs.declared.args.GroupArgs.{GroupArgs}
+use Rattle.logical_trees.specs.declared.args.TopArgs.{TopArgs}
+use Rattle.logical_trees.specs.declared.logic_op.LogicOp.{LogicOp}
+use Rattle.logical_trees.specs.declared.logic_op.LogicOp.TheVariants.{Join, Group, Top, Partial, Finish, LocalTop, LastTop}
+use Rattle.logical_trees.specs.Tree.{Expression, leaf, one, two, columns_of}
+use Rattle.logical_trees.specs.Blocks.{block_pairs}
 use Rattle.rules_steps.specs.Steps.{Pairs, IsDealt, Reaches}
 use Rattle.rules_places.specs.Space.{is_join}
 use Rattle.rules_space.specs.Tree as shape

@@ -1,10 +1,10 @@
 -- The expressions of the examples.
 use Rattle.std.specs.Prelude.{ℕ, [], ◌∷◌, None}
 use Rattle.script_trees.specs.declared.agg.AggKind.TheVariants.{Count}
-use Rattle.logical_dag.specs.declared.args.GroupArgs.{GroupArgs}
-use Rattle.logical_dag.specs.declared.logic_op.LogicOp.{LogicOp}
-use Rattle.logical_dag.specs.declared.logic_op.LogicOp.TheVariants.{Scan, Join}
-use Rattle.logical_dag.specs.Tree.{Expression, leaf, two}
+use Rattle.logical_trees.specs.declared.args.GroupArgs.{GroupArgs}
+use Rattle.logical_trees.specs.declared.logic_op.LogicOp.{LogicOp}
+use Rattle.logical_trees.specs.declared.logic_op.LogicOp.TheVariants.{Scan, Join}
+use Rattle.logical_trees.specs.Tree.{Expression, leaf, two}
 
 -- COUNT(*) by column 1, as column 4
 abbrev pub counting : GroupArgs

@@ -4,14 +4,14 @@ use Rattle.std.proofs.lemmas.List.Sorted.{IsPermutation-sym, IsPermutation-trans
 use Rattle.col_sets.specs.Sets.{has}
 use Rattle.structural_props.specs.Actions.{In}
 use Rattle.structural_props.specs.KeptLemmas.{in_append, in_left, in_right}
-use Rattle.logical_dag.specs.declared.args.GroupArgs.{GroupArgs}
-use Rattle.logical_dag.specs.declared.args.TopArgs.{TopArgs}
-use Rattle.logical_dag.specs.declared.logic_op.LogicOp.{LogicOp}
-use Rattle.logical_dag.specs.declared.logic_op.LogicOp.TheVariants.{Join, Group, Top, Partial, Finish, LocalTop, LastTop}
-use Rattle.logical_dag.specs.Tree.{Expression, leaf, one, two, group_columns}
-use Rattle.logical_dag.specs.Formed.{IsFormed}
-use Rattle.logical_dag.specs.Places.{block_pairs}
-use Rattle.logical_dag.proofs.Bags.{same_permuted}
+use Rattle.logical_trees.specs.declared.args.GroupArgs.{GroupArgs}
+use Rattle.logical_trees.specs.declared.args.TopArgs.{TopArgs}
+use Rattle.logical_trees.specs.declared.logic_op.LogicOp.{LogicOp}
+use Rattle.logical_trees.specs.declared.logic_op.LogicOp.TheVariants.{Join, Group, Top, Partial, Finish, LocalTop, LastTop}
+use Rattle.logical_trees.specs.Tree.{Expression, leaf, one, two, group_columns}
+use Rattle.logical_trees.specs.Formed.{IsFormed}
+use Rattle.logical_trees.specs.Blocks.{block_pairs}
+use Rattle.list_lemmas.specs.Bags.{same_permuted}
 use Rattle.rules_steps.specs.Steps.{Pairs}
 use Rattle.rules_places.specs.Space.{is_join, is_block}
 use Rattle.rules_places.proofs.Grown.{AreLeaves, of_block, on_left_leaves, on_right_leaves}

@@ -1,7 +1,7 @@
 -- Estimates go by place, as facts.
 use Rattle.std.specs.Prelude.{◌≡◌, ℕ, List}
-use Rattle.logical_dag.specs.Tree.{Expression}
-use Rattle.logical_dag.specs.Formed.{IsFormed}
+use Rattle.logical_trees.specs.Tree.{Expression}
+use Rattle.logical_trees.specs.Formed.{IsFormed}
 use Rattle.rules_shapes.specs.Shapes.{Shape, IsShaped}
 use Rattle.rules_sizes.specs.Sizes.{Size, Sizes, size_of, reached_size}
 use Rattle.rules_sizes.specs.Places.{ArePairsOf, AreSizesOf, AreSized}

@@ -1,11 +1,11 @@
 -- Sizes at the places of a script's tree.
 use Rattle.std.specs.Prelude.{◌≡◌, ◌+◌, ℕ, false, List, ◌++◌, map, IsPermutation}
 use Rattle.structural_props.specs.Actions.{In}
-use Rattle.logical_dag.specs.declared.args.GroupArgs.{GroupArgs}
-use Rattle.logical_dag.specs.declared.args.TopArgs.{TopArgs}
-use Rattle.logical_dag.specs.declared.logic_op.LogicOp.TheVariants.{Group, Top, Partial, LocalTop}
-use Rattle.logical_dag.specs.Tree.{Expression, leaf, one, two}
-use Rattle.logical_dag.specs.Places.{block_pairs}
+use Rattle.logical_trees.specs.declared.args.GroupArgs.{GroupArgs}
+use Rattle.logical_trees.specs.declared.args.TopArgs.{TopArgs}
+use Rattle.logical_trees.specs.declared.logic_op.LogicOp.TheVariants.{Group, Top, Partial, LocalTop}
+use Rattle.logical_trees.specs.Tree.{Expression, leaf, one, two}
+use Rattle.logical_trees.specs.Blocks.{block_pairs}
 use Rattle.rules_places.specs.Space.{is_block}
 use Rattle.rules_shapes.specs.Shapes.{Shape, size, top_number, numbered_leaves}
 use Rattle.rules_optimal.specs.Places.{numbered, tops, HasNumbers}

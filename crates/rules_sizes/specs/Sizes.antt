@@ -4,10 +4,10 @@ use Rattle.col_sets.specs.Sets.{has, rank, union}
 use Rattle.script_trees.specs.declared.op.PairOp.TheVariants.{And, Eq}
 use Rattle.scope_expr.specs.declared.expr.Expr.{Expr, end_of-Expr, more_of-Expr}
 use Rattle.scope_expr.specs.declared.expr.Expr.TheVariants.{Literal, Col, Pair'}
-use Rattle.logical_dag.specs.declared.logic_op.LogicOp.{LogicOp}
-use Rattle.logical_dag.specs.declared.logic_op.LogicOp.TheVariants.{Scan, Ref, Filter, Project, Join, Group, Process, Reduce, Top, Partial, Finish, LocalTop, LastTop}
-use Rattle.logical_dag.specs.Tree.{Expression, leaf, one, two, leaf_columns, one_columns, two_columns}
-use Rattle.logical_dag.specs.Places.{block_pairs}
+use Rattle.logical_trees.specs.declared.logic_op.LogicOp.{LogicOp}
+use Rattle.logical_trees.specs.declared.logic_op.LogicOp.TheVariants.{Scan, Ref, Filter, Project, Join, Group, Process, Reduce, Top, Partial, Finish, LocalTop, LastTop}
+use Rattle.logical_trees.specs.Tree.{Expression, leaf, one, two, leaf_columns, one_columns, two_columns}
+use Rattle.logical_trees.specs.Blocks.{block_pairs}
 use Rattle.rules_shapes.specs.Shapes.{Shape, size}
 use Rattle.rules_space.specs.Tree as shape
 use Rattle.rules_space.specs.declared.kind.Kind.{Kind}

@@ -5,12 +5,12 @@ use Rattle.col_sets.specs.Tests.{or_left, or_right}
 use Rattle.col_sets.specs.Tests as tests
 use Rattle.structural_props.specs.Actions.{In}
 use Rattle.structural_props.specs.KeptLemmas.{in_append, in_right}
-use Rattle.logical_dag.specs.declared.logic_op.LogicOp.TheVariants.{Join}
-use Rattle.logical_dag.specs.Tree.{Expression, leaf, one, two}
-use Rattle.logical_dag.specs.Places.{chosen, IsJoinOf}
-use Rattle.logical_dag.specs.Places as joins
-use Rattle.logical_dag.proofs.Bags.{flat_map_permuted}
-use Rattle.logical_dag.proofs.Leaves.{in_permuted_too}
+use Rattle.logical_trees.specs.declared.logic_op.LogicOp.TheVariants.{Join}
+use Rattle.logical_trees.specs.Tree.{Expression, leaf, one, two}
+use Rattle.logical_trees.specs.Blocks.{chosen, IsJoinOf}
+use Rattle.logical_trees.specs.Blocks as joins
+use Rattle.list_lemmas.specs.Bags.{flat_map_permuted}
+use Rattle.list_lemmas.specs.Members.{in_moved}
 use Rattle.rules_shapes.specs.Shapes.{size, numbered_leaves}
 use Rattle.rules_shapes.proofs.Knit.{leaves_of}
 use Rattle.rules_optimal.specs.Places.{HasNumbers}
@@ -162,7 +162,7 @@ chosen_picks L (v ∷ leaves) =
 
 one_there : (x : Expression) (xs : List Expression) → IsPermutation (x ∷ []) xs → xs ≡ x ∷ []
 one_there x [] p = absurd (let l = length_permutation (x ∷ []) [] p in omega arith)
-one_there x (y ∷ []) p = go (in_permuted_too (y ∷ []) (x ∷ []) y (IsPermutation-sym (x ∷ []) (y ∷ []) p) (inl refl))
+one_there x (y ∷ []) p = go (in_moved y (y ∷ []) (x ∷ []) (IsPermutation-sym (x ∷ []) (y ∷ []) p) (inl refl))
   where
     go : In y (x ∷ []) → y ∷ [] ≡ x ∷ []
     go (inl e) = ap (λ z. z ∷ []) e

@@ -2,10 +2,10 @@
 use Rattle.std.proofs.Common.{◌≡◌, ◌+◌, ℕ, Bool, true, false, List, [], ◌∷◌, ◌++◌, length, length-append, arith, refl, sym, ap, ap₂, ◌∙◌, subst, ◌⊎◌, inl, inr, Some, slice_get}
 use Rattle.structural_props.specs.Actions.{In}
 use Rattle.structural_props.specs.KeptLemmas.{in_append}
-use Rattle.logical_dag.specs.declared.logic_op.LogicOp.TheVariants.{Join}
-use Rattle.logical_dag.specs.Tree.{Expression, leaf, one, two}
-use Rattle.logical_dag.specs.Formed.{IsFormed}
-use Rattle.logical_dag.proofs.NodeLemmas.{get_front, get_past, get_last}
+use Rattle.logical_trees.specs.declared.logic_op.LogicOp.TheVariants.{Join}
+use Rattle.logical_trees.specs.Tree.{Expression, leaf, one, two}
+use Rattle.logical_trees.specs.Formed.{IsFormed}
+use Rattle.list_lemmas.specs.Reading.{get_front, get_past, get_last}
 use Rattle.logical_dag.proofs.Placed.{got_in}
 use Rattle.rules_shapes.specs.Shapes.{Shape, size, top_number, shape_of, AllLinked}
 use Rattle.rules_shapes.proofs.Tied.{shaped_tied}

@@ -9,12 +9,13 @@ use Rattle.logical_dag.specs.declared.dag.Dag.{Dag}
 use Rattle.logical_dag.specs.declared.place.Place.{Place as DagPlace}
 use Rattle.logical_dag.specs.declared.place.PlacePart.{PlacePart}
 use Rattle.logical_dag.specs.declared.place.PlacePart.TheVariants.{Whole as AllOf, Leaves as SomeLeaves, Lower}
-use Rattle.logical_dag.specs.declared.logic_op.LogicOp.TheVariants.{Join, Group, Top, Partial, LocalTop}
-use Rattle.logical_dag.specs.Tree.{Expression, leaf, one, two, nodes}
+use Rattle.logical_trees.specs.declared.logic_op.LogicOp.TheVariants.{Join, Group, Top, Partial, LocalTop}
+use Rattle.logical_trees.specs.Tree.{Expression, leaf, one, two, nodes}
 use Rattle.logical_dag.specs.Facts.{AreFactsOf}
-use Rattle.logical_dag.specs.Places.{block_leaves, block_pairs, chosen, IsJoinOf, IsPart}
+use Rattle.logical_trees.specs.Blocks.{block_leaves, block_pairs, chosen, IsJoinOf}
+use Rattle.logical_dag.specs.Places.{IsPart}
 use Rattle.logical_dag.specs.Scripts.{all_trees}
-use Rattle.logical_dag.proofs.NodeLemmas.{get_front, get_past, get_last}
+use Rattle.list_lemmas.specs.Reading.{get_front, get_past, get_last}
 use Rattle.logical_dag.proofs.Placed.{and_some}
 use Rattle.parts_plans.specs.Plans.{Env}
 use Rattle.rules_places.specs.Space.{is_block}

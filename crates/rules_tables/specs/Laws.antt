@@ -4,8 +4,8 @@ use Rattle.fd_closure.specs.declared.facts.Facts.{Facts}
 use Rattle.structural_props.specs.Actions.{In}
 use Rattle.logical_dag.specs.declared.dag.Dag.{Dag}
 use Rattle.logical_dag.specs.declared.place.Place.{Place as DagPlace}
-use Rattle.logical_dag.specs.Tree.{Expression}
-use Rattle.logical_dag.specs.Formed.{IsFormed}
+use Rattle.logical_trees.specs.Tree.{Expression}
+use Rattle.logical_trees.specs.Formed.{IsFormed}
 use Rattle.logical_dag.specs.Scripts.{all_trees}
 use Rattle.parts_plans.specs.Plans.{Env}
 use Rattle.rules_shapes.specs.Shapes.{top_number, numbered_leaves, shape_of, IsScriptOf, IsJustScriptOf}

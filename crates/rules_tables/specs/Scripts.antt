@@ -1,9 +1,9 @@
 -- The script and the forms of a tree.
 use Rattle.std.specs.Prelude.{◌+◌, ◌&&◌, ℕ, false, if◌then◌else◌, List, [], ◌∷◌, ◌++◌, flat_map, slice_get}
 use Rattle.col_sets.specs.Sets.{has}
-use Rattle.logical_dag.specs.declared.logic_op.LogicOp.TheVariants.{Join}
-use Rattle.logical_dag.specs.Tree.{Expression, leaf, one, two, nodes, columns_of}
-use Rattle.logical_dag.specs.Places.{block_pairs}
+use Rattle.logical_trees.specs.declared.logic_op.LogicOp.TheVariants.{Join}
+use Rattle.logical_trees.specs.Tree.{Expression, leaf, one, two, nodes, columns_of}
+use Rattle.logical_trees.specs.Blocks.{block_pairs}
 use Rattle.rules_shapes.specs.Shapes.{size, top_number, numbered_leaves, is_split}
 use Rattle.rules_optimal.specs.Places.{tops}
 use Rattle.rules_tables.specs.Tables.{op_of}

@@ -5,11 +5,12 @@ use Rattle.structural_props.specs.declared.property.Delivered.{Delivered}
 use Rattle.logical_dag.specs.declared.dag.Dag.{Dag}
 use Rattle.logical_dag.specs.declared.place.Place.{Place as DagPlace}
 use Rattle.logical_dag.specs.declared.place.PlacePart.TheVariants.{Whole as AllOf, Leaves as SomeLeaves, Lower}
-use Rattle.logical_dag.specs.declared.logic_op.LogicOp.{LogicOp}
-use Rattle.logical_dag.specs.declared.logic_op.LogicOp.TheVariants.{Scan, Group, Top, Partial, Finish, LocalTop, LastTop}
-use Rattle.logical_dag.specs.Tree.{Expression, nodes}
+use Rattle.logical_trees.specs.declared.logic_op.LogicOp.{LogicOp}
+use Rattle.logical_trees.specs.declared.logic_op.LogicOp.TheVariants.{Scan, Group, Top, Partial, Finish, LocalTop, LastTop}
+use Rattle.logical_trees.specs.Tree.{Expression, nodes}
 use Rattle.logical_dag.specs.Facts.{AreFactsOf}
-use Rattle.logical_dag.specs.Places.{block_pairs, IsAt}
+use Rattle.logical_trees.specs.Blocks.{block_pairs}
+use Rattle.logical_dag.specs.Places.{IsAt}
 use Rattle.logical_dag.specs.Scripts.{top_of}
 use Rattle.parts_plans.specs.Kinds.{PlanKind}
 use Rattle.parts_plans.specs.Plans.{Env}

@@ -2,7 +2,7 @@
 use Rattle.std.proofs.Common.{◌≡◌, ◌≤◌, ◌+◌, ℕ, Bool, true, false, cond, List, arith, refl, sym, ap, ◌∙◌}
 use Rattle.structural_props.specs.declared.scheme.Scheme.{Scheme}
 use Rattle.structural_props.specs.declared.property.Delivered.{Delivered}
-use Rattle.logical_dag.specs.Tree.{Expression, leaf, one, two}
+use Rattle.logical_trees.specs.Tree.{Expression, leaf, one, two}
 use Rattle.parts_plans.specs.Kinds.{PlanKind}
 use Rattle.parts_plans.specs.Plans.{Plan}
 use Rattle.rules_plans.specs.Laws.{is_enforcer}

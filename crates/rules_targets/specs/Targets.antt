@@ -2,10 +2,10 @@
 use Rattle.std.specs.Prelude.{ℕ, nat_eq, nat_lt, filter, Bool, true, false, ◌&&◌, ◌||◌, List, [], ◌∷◌, ◌++◌, map, flat_map, take, Option, Some, None}
 use Rattle.col_sets.specs.declared.dir.Dir.{Dir}
 use Rattle.col_sets.specs.declared.dir.Dir.TheVariants.{Up, Down}
-use Rattle.logical_dag.specs.declared.logic_op.LogicOp.{LogicOp}
-use Rattle.logical_dag.specs.declared.logic_op.LogicOp.TheVariants.{Join, Group, Reduce, Combine, Top}
-use Rattle.logical_dag.specs.Tree.{Expression, nodes}
-use Rattle.logical_dag.specs.Rows.{order_of, left_columns, right_columns}
+use Rattle.logical_trees.specs.declared.logic_op.LogicOp.{LogicOp}
+use Rattle.logical_trees.specs.declared.logic_op.LogicOp.TheVariants.{Join, Group, Reduce, Combine, Top}
+use Rattle.logical_trees.specs.Tree.{Expression, nodes}
+use Rattle.logical_trees.specs.Rows.{order_of, left_columns, right_columns}
 use Rattle.logical_dag.specs.Scripts.{top_of}
 use Rattle.parts_nodes.specs.Tables.{ups}
 use Rattle.parts_plans.specs.Kinds.{PlanKind, Site, in_one_part, hash_join, merge_join, combine, hash_any, hash_merge, range_any, sort, broadcast, Stream}

@@ -12,10 +12,10 @@ use Rattle.col_sets.specs.Tests.{and_true, or_left, to_test}
 use Rattle.script_trees.specs.declared.agg.AggKind.{AggKind}
 use Rattle.scope_expr.specs.declared.expr.Expr.{Expr}
 use Rattle.logical_dag.specs.declared.dag.ScanDecl.{ScanDecl}
-use Rattle.logical_dag.specs.declared.logic_op.LogicOp.{LogicOp}
-use Rattle.logical_dag.specs.declared.logic_op.LogicOp.TheVariants.{Filter, Project, Group, Process, Reduce, Top}
-use Rattle.logical_dag.specs.Tree.{Expression, one, two, nodes, columns_of, fresh_columns, numbered_columns}
-use Rattle.logical_dag.specs.Formed.{IsWhole, IsFormed, IsOneFormed, IsTwoFormed}
+use Rattle.logical_trees.specs.declared.logic_op.LogicOp.{LogicOp}
+use Rattle.logical_trees.specs.declared.logic_op.LogicOp.TheVariants.{Filter, Project, Group, Process, Reduce, Top}
+use Rattle.logical_trees.specs.Tree.{Expression, one, two, nodes, columns_of, fresh_columns, numbered_columns}
+use Rattle.logical_trees.specs.Formed.{IsWhole, IsFormed, IsOneFormed, IsTwoFormed}
 use Rattle.logical_dag.specs.Scripts.{top_of, is_step, scan_of, scans_of}
 use Rattle.column_ranks.specs.Moved.{moved}
 use Rattle.column_ranks.specs.Rising.{IsRising}

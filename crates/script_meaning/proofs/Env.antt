@@ -5,7 +5,7 @@ use Rattle.std.proofs.lemmas.List.{length_push}
 use Rattle.std.proofs.lemmas.Option.{slice_get_within}
 use Rattle.user_ops.specs.Told.{Operators}
 use Rattle.logical_dag.specs.declared.dag.ScanDecl.{ScanDecl}
-use Rattle.logical_dag.specs.Rows.{Bag}
+use Rattle.logical_trees.specs.Rows.{Bag}
 use Rattle.script_meaning.specs.Script.{Source, from_result, from_stream, Joined, Beside, inners, outer, Command, extract, select, process, reduce, combine, output, Statement, input_at}
 use Rattle.script_meaning.specs.Meaning.{Table, or_no_table, result_at, source_rows, from_rows, beside_rows, result, results}
 use Rattle.script_meaning.specs.Part.{Part}

@@ -10,9 +10,9 @@ use Rattle.scope_value.specs.Keys.{keys_cmp}
 use Rattle.scope_value.specs.Sorted.{sorted}
 use Rattle.user_ops.specs.Told.{Operators}
 use Rattle.logical_dag.specs.declared.dag.ScanDecl.{ScanDecl}
-use Rattle.logical_dag.specs.Tree.{columns_of}
-use Rattle.logical_dag.specs.Rows.{Bag}
-use Rattle.logical_dag.specs.Meaning.{Sources, bag_at, StandsFor}
+use Rattle.logical_trees.specs.Tree.{columns_of}
+use Rattle.logical_trees.specs.Rows.{Bag}
+use Rattle.logical_trees.specs.Meaning.{Sources, bag_at, StandsFor}
 use Rattle.column_ranks.specs.RowLemmas.{items_moved}
 use Rattle.script_meaning.specs.Meaning.{places, Table, in_order_opt}
 use Rattle.script_meaning.specs.Part.{Part, number, cols_at}

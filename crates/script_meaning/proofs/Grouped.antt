@@ -11,12 +11,14 @@ use Rattle.col_sets.specs.Sets.{has, union}
 use Rattle.structural_props.specs.Rows.{value_at}
 use Rattle.script_trees.specs.declared.agg.AggKind.{AggKind}
 use Rattle.scope_expr.specs.declared.expr.Expr.{Expr}
-use Rattle.logical_dag.specs.declared.agg.Agg.{Agg}
-use Rattle.logical_dag.specs.Rows.{Row, Bag, row_over, distinct, with_key, exact, fitted, whole_value, agg_at, group_row, group_keys, grouped}
+use Rattle.logical_trees.specs.declared.agg.Agg.{Agg}
+use Rattle.logical_trees.specs.Rows.{Row, Bag, row_over, with_key, exact, fitted, whole_value, agg_at, group_row, group_keys, grouped}
+use Rattle.list_lemmas.specs.Distinct.{distinct}
 use Rattle.column_ranks.specs.Moved.{moved, HasRanks}
 use Rattle.column_ranks.specs.Rising.{IsRising}
 use Rattle.column_ranks.specs.RisingLemmas.{rising_from, rising_below, rising_append, rising_range, union_append}
-use Rattle.column_ranks.specs.RowLemmas.{map_in, map_over_append, key_moved, argument_moved, values, values_over}
+use Rattle.logical_trees.specs.RowLemmas.{map_members}
+use Rattle.column_ranks.specs.RowLemmas.{map_over_append, key_moved, argument_moved, values, values_over}
 use Rattle.script_meaning.specs.Meaning.{places, agg_value}
 use Rattle.script_meaning.specs.Part.{numbered}
 
@@ -31,7 +33,7 @@ values_numbered value_of f e [] = refl
 values_numbered value_of f e (g ∷ aggs) =
     let first : nat_eq e e ≡ true = grind (arith, nat_tests) in
     rw first (ap (λ l. value_of (record { kind = g.0; arg = option_map (moved f) g.1; id = e }) ∷ l)
-    (map_in (agg_at value_of (numbered f e (g ∷ aggs))) (agg_at value_of (numbered f (e + 1) aggs)) (range_with_len (e + 1) (length aggs)) later
+    (map_members (agg_at value_of (numbered f e (g ∷ aggs))) (agg_at value_of (numbered f (e + 1) aggs)) (range_with_len (e + 1) (length aggs)) later
     ∙ values_numbered value_of f (e + 1) aggs))
   where
     later : (c : ℕ) → has (range_with_len (e + 1) (length aggs)) c ≡ true → agg_at value_of (numbered f e (g ∷ aggs)) c ≡ agg_at value_of (numbered f (e + 1) aggs) c
@@ -79,8 +81,8 @@ module _ (f : ℕ → ℕ) (n : ℕ) (cols : List ℕ) (h : HasRanks f (places n
           ∙ ap (λ cs. row_over cs pick) (union_append (e + length aggs) (map f keys) (range_with_len e (length aggs)) (rising_append 0 m _ _ _ rising behind) room)
           ∙ map_over_append pick (map f keys) (range_with_len e (length aggs))
           ∙ ap₂ (λ x y. x ++ y)
-          (map_in pick (value_at (map f keys) k) (map f keys) (λ c q. rw q refl) ∙ values_over 0 m (map f keys) k rising ∙ ap (λ i. values i k) (length-map keys f))
-          (map_in pick (agg_at value_of (numbered f e aggs)) (range_with_len e (length aggs)) (λ c q. rw (other c q) refl)
+          (map_members pick (value_at (map f keys) k) (map f keys) (λ c q. rw q refl) ∙ values_over 0 m (map f keys) k rising ∙ ap (λ i. values i k) (length-map keys f))
+          (map_members pick (agg_at value_of (numbered f e aggs)) (range_with_len e (length aggs)) (λ c q. rw (other c q) refl)
           ∙ values_numbered value_of f e aggs
           ∙ aggs_moved aggs e _ _ (with_key_moved keys k A))
         where

@@ -7,8 +7,9 @@ use Rattle.scope_value.specs.Sorted.{sorted}
 use Rattle.col_sets.specs.declared.dir.Dir.{Dir}
 use Rattle.structural_props.specs.Rows.{key_of, items}
 use Rattle.user_ops.specs.Told.{Operators, reduces_at, combines_at}
-use Rattle.logical_dag.specs.declared.args.CallArgs.{CallArgs}
-use Rattle.logical_dag.specs.Rows.{Row, Bag, distinct, with_key, keys_among, in_order, order_of, reduced, left_columns, right_columns, keys_of_both, combined}
+use Rattle.logical_trees.specs.declared.args.CallArgs.{CallArgs}
+use Rattle.logical_trees.specs.Rows.{Row, Bag, with_key, keys_among, in_order, order_of, reduced, left_columns, right_columns, keys_of_both, combined}
+use Rattle.list_lemmas.specs.Distinct.{distinct}
 use Rattle.column_ranks.specs.Moved.{HasRanks}
 use Rattle.column_ranks.specs.RowLemmas.{key_moved, items_moved}
 use Rattle.script_meaning.specs.Part.{order_at}

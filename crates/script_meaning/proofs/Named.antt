@@ -11,9 +11,9 @@ use Rattle.script_trees.specs.declared.agg.AggKind.{AggKind}
 use Rattle.scope_expr.specs.declared.expr.Expr.{Expr, end_of-Expr, more_of-Expr}
 use Rattle.scope_expr.specs.declared.expr.Expr.TheBlock.{shape-the_row-Expr-0, hidden-the_row-Expr-0}
 use Rattle.scope_expr.specs.declared.expr.Expr.TheVariants.{Literal, Col, Neg', Not', Pair'}
-use Rattle.logical_dag.specs.declared.agg.Agg.{Agg}
-use Rattle.logical_dag.specs.Rows.{order_of}
-use Rattle.logical_dag.specs.Formed.{IsOver, IsArgumentOver, IsOrderOver, IsGroup, IsCall, IsJoin}
+use Rattle.logical_trees.specs.declared.agg.Agg.{Agg}
+use Rattle.logical_trees.specs.Rows.{order_of}
+use Rattle.logical_trees.specs.Formed.{IsOver, IsArgumentOver, IsOrderOver, IsGroup, IsCall, IsJoin}
 use Rattle.column_ranks.specs.Moved.{moved}
 use Rattle.column_ranks.specs.Rising.{IsRising}
 use Rattle.column_ranks.specs.RisingLemmas.{rising_le, rising_from, rising_below, rising_set, rising_range}

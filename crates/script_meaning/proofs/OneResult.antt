@@ -7,14 +7,14 @@ use Rattle.std.proofs.lemmas.List.Sorted.{IsPermutation-sym, IsPermutation-trans
 use Rattle.col_sets.specs.declared.dir.Dir.{Dir}
 use Rattle.col_sets.specs.Sets.{count}
 use Rattle.user_ops.specs.Told.{Operators}
-use Rattle.logical_dag.specs.declared.logic_op.LogicOp.TheVariants.{Ref}
-use Rattle.logical_dag.specs.Tree.{Expression, leaf, one, two, columns_of}
-use Rattle.logical_dag.specs.Rows.{Bag}
-use Rattle.logical_dag.specs.Meaning.{Sources, bag_at, StandsFor}
-use Rattle.logical_dag.specs.Formed.{IsFormed}
+use Rattle.logical_trees.specs.declared.logic_op.LogicOp.TheVariants.{Ref}
+use Rattle.logical_trees.specs.Tree.{Expression, leaf, one, two, columns_of}
+use Rattle.logical_trees.specs.Rows.{Bag}
+use Rattle.logical_trees.specs.Meaning.{Sources, bag_at, StandsFor}
+use Rattle.logical_trees.specs.Formed.{IsFormed}
 use Rattle.logical_dag.specs.Scripts.{IsWritten}
-use Rattle.logical_dag.proofs.OneBag.{one_bag}
-use Rattle.logical_dag.proofs.Groups.{in_order_permuted}
+use Rattle.logical_trees.specs.OneBagLemmas.{one_bag}
+use Rattle.logical_trees.specs.GroupLemmas.{in_order_permuted}
 use Rattle.script_meaning.specs.Meaning.{in_order_opt}
 use Rattle.script_meaning.specs.Dag.{dag_of}
 use Rattle.script_meaning.specs.Laws.{AllStand, Writes, meaning}

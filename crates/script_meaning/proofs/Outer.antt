@@ -9,10 +9,10 @@ use Rattle.scope_value.specs.Keys.{keys_cmp}
 use Rattle.col_sets.specs.Tests.{both, and_true, or_left, or_right, same_tests}
 use Rattle.structural_props.specs.Rows.{value_at, key_of, items}
 use Rattle.structural_props.specs.Actions.{In}
-use Rattle.logical_dag.specs.Rows.{Row, Bag, agree_on, with_key, in_order, left_columns, right_columns, keys_of_both}
-use Rattle.logical_dag.proofs.Bags.{same_permuted, along_permutation, flat_map_permuted, flat_map_each}
-use Rattle.logical_dag.proofs.Distinct.{is_row, row_is, row_turned, row_itself}
-use Rattle.logical_dag.proofs.OrderLemmas.{sorted_moved}
+use Rattle.logical_trees.specs.Rows.{Row, Bag, agree_on, with_key, in_order, left_columns, right_columns, keys_of_both}
+use Rattle.list_lemmas.specs.Bags.{same_permuted, along_permutation, flat_map_permuted, flat_map_each}
+use Rattle.list_lemmas.specs.Distinct.{is_row, row_is, row_turned, row_itself}
+use Rattle.list_lemmas.specs.Sorting.{sorted_moved}
 use Rattle.script_meaning.specs.Script.{Side}
 use Rattle.script_meaning.specs.Meaning.{keeps_left, keeps_right, nulls, agreeing, lone_left, lone_right, outer_bag}
 use Rattle.user_ops.specs.Told.{combines_at}

@@ -7,11 +7,11 @@ use Rattle.col_sets.specs.Sets.{has, union}
 use Rattle.col_sets.specs.Tests.{or_right}
 use Rattle.script_trees.specs.declared.agg.AggKind.{AggKind}
 use Rattle.scope_expr.specs.declared.expr.Expr.{Expr}
-use Rattle.logical_dag.specs.declared.agg.Agg.{Agg}
+use Rattle.logical_trees.specs.declared.agg.Agg.{Agg}
 use Rattle.logical_dag.specs.declared.dag.ScanDecl.{ScanDecl}
-use Rattle.logical_dag.specs.declared.logic_op.LogicOp.{LogicOp}
-use Rattle.logical_dag.specs.declared.logic_op.LogicOp.TheVariants.{Filter, Project, Group, Process, Reduce, Top}
-use Rattle.logical_dag.specs.Tree.{two, one_columns, two_columns, columns_of}
+use Rattle.logical_trees.specs.declared.logic_op.LogicOp.{LogicOp}
+use Rattle.logical_trees.specs.declared.logic_op.LogicOp.TheVariants.{Filter, Project, Group, Process, Reduce, Top}
+use Rattle.logical_trees.specs.Tree.{two, one_columns, two_columns, columns_of}
 use Rattle.column_ranks.specs.Moved.{moved}
 use Rattle.column_ranks.specs.Rising.{IsRising}
 use Rattle.column_ranks.specs.RisingLemmas.{rising_append, rising_shift, rising_range, rising_filter, union_append}

@@ -3,12 +3,12 @@ use Rattle.std.proofs.Common.{◌≡◌, ℕ, zero, suc, ◌+◌, ◌<◌, ◌�
 use Rattle.std.specs.Prelude.{IfSome, All}
 use Rattle.col_sets.specs.declared.dir.Dir.{Dir}
 use Rattle.user_ops.specs.Told.{Operators}
-use Rattle.logical_dag.specs.Tree.{Expression, columns_of}
-use Rattle.logical_dag.specs.Rows.{Bag}
-use Rattle.logical_dag.specs.Meaning.{Sources, bag_at, StandsFor}
+use Rattle.logical_trees.specs.Tree.{Expression, columns_of}
+use Rattle.logical_trees.specs.Rows.{Bag}
+use Rattle.logical_trees.specs.Meaning.{Sources, bag_at, StandsFor}
 use Rattle.logical_dag.specs.Scripts.{IsWritten}
-use Rattle.logical_dag.proofs.Bags.{same_permuted}
-use Rattle.logical_dag.proofs.Meaning.{some_bag}
+use Rattle.list_lemmas.specs.Bags.{same_permuted}
+use Rattle.logical_trees.specs.MeaningLemmas.{some_bag}
 use Rattle.script_meaning.specs.Meaning.{in_order_opt}
 use Rattle.script_meaning.specs.Laws.{AllStand, Writes}
 use Rattle.script_meaning.specs.Written.{AreOrdersOver}

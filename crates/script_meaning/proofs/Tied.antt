@@ -14,15 +14,16 @@ use Rattle.user_ops.specs.Told.{Operators, combines_at}
 use Rattle.script_trees.specs.declared.agg.AggKind.{AggKind}
 use Rattle.scope_expr.specs.declared.expr.Expr.{Expr}
 use Rattle.logical_dag.specs.declared.dag.ScanDecl.{ScanDecl}
-use Rattle.logical_dag.specs.declared.logic_op.LogicOp.{LogicOp}
-use Rattle.logical_dag.specs.declared.logic_op.LogicOp.TheVariants.{Filter, Project, Group, Process, Reduce, Top}
-use Rattle.logical_dag.specs.Tree.{columns_of}
-use Rattle.logical_dag.specs.Rows.{Row, Bag, agree_on, merged}
-use Rattle.logical_dag.specs.Meaning.{Sources, bag_at, GivesOne, GivesTwo, StandsFor}
+use Rattle.logical_trees.specs.declared.logic_op.LogicOp.{LogicOp}
+use Rattle.logical_trees.specs.declared.logic_op.LogicOp.TheVariants.{Filter, Project, Group, Process, Reduce, Top}
+use Rattle.logical_trees.specs.Tree.{columns_of}
+use Rattle.logical_trees.specs.Rows.{Row, Bag, agree_on, merged}
+use Rattle.logical_trees.specs.Meaning.{Sources, bag_at, GivesOne, GivesTwo, StandsFor}
 use Rattle.column_ranks.specs.Moved.{moved, HasRanks}
 use Rattle.column_ranks.specs.Rising.{IsRising}
 use Rattle.column_ranks.specs.RisingLemmas.{rising_range, rank_at, rank_shift}
-use Rattle.column_ranks.specs.RowLemmas.{same_permuted, holds_moved, projected_moved, items_moved, agree_moved, values, merged_values}
+use Rattle.list_lemmas.specs.Bags.{same_permuted}
+use Rattle.column_ranks.specs.RowLemmas.{holds_moved, projected_moved, items_moved, agree_moved, values, merged_values}
 use Rattle.script_meaning.specs.Script.{Call, Side, Grouping, Query}
 use Rattle.script_meaning.specs.Meaning.{places, Table, table, no_table, where_rows, where_opt, join_rows, key_places, group_rows, group_opt, item_rows, distinct_opt, order_list, top_opt, outer_rows, process_rows, reduce_rows, combine_rows, query_rows}
 use Rattle.script_meaning.specs.Part.{Part, cols_at, number, nothing, scanned, referred, over, join_on, joined_part, call_at, order_at, process_part, reduce_part, combine_on, combine_part, filter_opt, numbered, group_part, listed, grouping_opt, project_part, unique_opt, first_opt, query_part}

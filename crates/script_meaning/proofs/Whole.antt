@@ -11,9 +11,9 @@ use Rattle.col_sets.specs.Sets.{has, count}
 use Rattle.col_sets.specs.Columns.{has-filter}
 use Rattle.col_sets.specs.Tests.{either, both, or_left, or_right, from_test, to_test}
 use Rattle.logical_dag.specs.declared.dag.ScanDecl.{ScanDecl}
-use Rattle.logical_dag.specs.Tree.{Expression, columns_of}
-use Rattle.logical_dag.specs.Rows.{order_of}
-use Rattle.logical_dag.specs.Formed.{IsOrderOver}
+use Rattle.logical_trees.specs.Tree.{Expression, columns_of}
+use Rattle.logical_trees.specs.Rows.{order_of}
+use Rattle.logical_trees.specs.Formed.{IsOrderOver}
 use Rattle.logical_dag.specs.Scripts.{scans_of, IsWritten}
 use Rattle.column_ranks.specs.Rising.{IsRising}
 use Rattle.column_ranks.specs.RisingLemmas.{rising_from, rising_below, rising_range, rising_filter}

@@ -5,7 +5,7 @@ use Rattle.std.specs.List.{range_with_len, position_or_len}
 use Rattle.col_sets.specs.declared.dir.Dir.{Dir}
 use Rattle.col_sets.specs.Sets.{has}
 use Rattle.logical_dag.specs.declared.dag.ScanDecl.{ScanDecl}
-use Rattle.logical_dag.specs.Tree.{Expression}
+use Rattle.logical_trees.specs.Tree.{Expression}
 use Rattle.script_meaning.specs.Script.{Statement, Command, output, gives}
 use Rattle.script_meaning.specs.Part.{Part, nothing, number}
 use Rattle.script_meaning.specs.Bound.{parts_of}

@@ -10,9 +10,9 @@ use Rattle.script_trees.specs.declared.agg.AggKind.TheVariants.{Count}
 use Rattle.scope_expr.specs.declared.expr.Expr.{Expr}
 use Rattle.scope_expr.specs.declared.expr.Expr.TheVariants.{Literal, Col, Pair}
 use Rattle.logical_dag.specs.declared.dag.ScanDecl.{ScanDecl}
-use Rattle.logical_dag.specs.declared.logic_op.LogicOp.TheVariants.{Scan, Ref, Filter, Project, Join, Group, Top}
-use Rattle.logical_dag.specs.Tree.{leaf, one, two}
-use Rattle.logical_dag.specs.Rows.{Bag, agree_on}
+use Rattle.logical_trees.specs.declared.logic_op.LogicOp.TheVariants.{Scan, Ref, Filter, Project, Join, Group, Top}
+use Rattle.logical_trees.specs.Tree.{leaf, one, two}
+use Rattle.logical_trees.specs.Rows.{Bag, agree_on}
 use Rattle.script_meaning.specs.Script.{from_result, from_stream, left_side, right_side, full_side, inners, Query, extract, select, output, Statement}
 use Rattle.script_meaning.specs.Meaning.{places, outer_bag}
 use Rattle.script_meaning.specs.Dag.{dag_of}

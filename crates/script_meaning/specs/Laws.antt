@@ -3,10 +3,10 @@ use Rattle.std.specs.Prelude.{◌≡◌, ◌≤◌, ◌+◌, ℕ, if◌then◌el
 use Rattle.col_sets.specs.declared.dir.Dir.{Dir}
 use Rattle.user_ops.specs.Told.{Operators, combines_at}
 use Rattle.logical_dag.specs.declared.dag.ScanDecl.{ScanDecl}
-use Rattle.logical_dag.specs.Tree.{Expression, columns_of}
-use Rattle.logical_dag.specs.declared.args.CallArgs.{CallArgs}
-use Rattle.logical_dag.specs.Rows.{Bag, agree_on, combined}
-use Rattle.logical_dag.specs.Meaning.{Sources, StandsFor}
+use Rattle.logical_trees.specs.Tree.{Expression, columns_of}
+use Rattle.logical_trees.specs.declared.args.CallArgs.{CallArgs}
+use Rattle.logical_trees.specs.Rows.{Bag, agree_on, combined}
+use Rattle.logical_trees.specs.Meaning.{Sources, StandsFor}
 use Rattle.script_meaning.specs.Script.{Call, Side, Beside, inners, outer, Command, select, Statement}
 use Rattle.script_meaning.specs.Meaning.{Table, or_no_table, source_rows, keeps_left, keeps_right, nulls, outer_bag, result, results, places, in_order_opt}
 use Rattle.script_meaning.specs.Bound.{parts_of}

@@ -10,7 +10,7 @@ use Rattle.scope_expr.specs.declared.expr.Expr.{Expr}
 use Rattle.scope_expr.specs.Value.{holds}
 use Rattle.logical_dag.specs.declared.dag.ScanDecl.{ScanDecl}
 use Rattle.user_ops.specs.Told.{Operators, processes_at, reduces_at, combines_at}
-use Rattle.logical_dag.specs.Rows.{Row, Bag, projected, agree_on, with_key, keys_among, group_keys, whole_value, first_rows, in_order, order_of, left_columns, right_columns, keys_of_both}
+use Rattle.logical_trees.specs.Rows.{Row, Bag, projected, agree_on, with_key, keys_among, group_keys, whole_value, first_rows, in_order, order_of, left_columns, right_columns, keys_of_both}
 use Rattle.column_ranks.specs.RowLemmas.{values}
 use Rattle.script_meaning.specs.Script.{Source, from_result, from_stream, Call, Joined, Side, left_side, right_side, Beside, inners, outer, Grouping, Query, Command, extract, select, process, reduce, combine, output, Statement, input_at}
 

@@ -3,7 +3,7 @@ use Rattle.std.specs.Prelude.{◌≡◌, ℕ, List, [], ◌∷◌, Option, Some,
 use Rattle.col_sets.specs.declared.dir.Dir.{Dir}
 use Rattle.user_ops.specs.Told.{Operators}
 use Rattle.logical_dag.specs.declared.dag.ScanDecl.{ScanDecl}
-use Rattle.logical_dag.specs.Rows.{Bag}
+use Rattle.logical_trees.specs.Rows.{Bag}
 use Rattle.script_meaning.specs.Script.{Statement}
 use Rattle.script_meaning.specs.Dag.{ScriptDag, dag_of}
 use Rattle.script_meaning.specs.Placed.{IsPlaced}

@@ -4,13 +4,13 @@ use Rattle.std.specs.List.{range_with_len}
 use Rattle.col_sets.specs.declared.dir.Dir.{Dir}
 use Rattle.script_trees.specs.declared.agg.AggKind.{AggKind}
 use Rattle.scope_expr.specs.declared.expr.Expr.{Expr}
-use Rattle.logical_dag.specs.declared.agg.Agg.{Agg}
+use Rattle.logical_trees.specs.declared.agg.Agg.{Agg}
 use Rattle.logical_dag.specs.declared.dag.ScanDecl.{ScanDecl}
-use Rattle.logical_dag.specs.declared.logic_op.LogicOp.{LogicOp}
-use Rattle.logical_dag.specs.declared.logic_op.LogicOp.TheVariants.{Scan, Ref, Filter, Project, Join, Group, Process, Reduce, Combine, Top}
-use Rattle.logical_dag.specs.Tree.{Expression, leaf, one, two}
+use Rattle.logical_trees.specs.declared.logic_op.LogicOp.{LogicOp}
+use Rattle.logical_trees.specs.declared.logic_op.LogicOp.TheVariants.{Scan, Ref, Filter, Project, Join, Group, Process, Reduce, Combine, Top}
+use Rattle.logical_trees.specs.Tree.{Expression, leaf, one, two}
 use Rattle.column_ranks.specs.Moved.{moved}
-use Rattle.logical_dag.specs.declared.args.CallArgs.{CallArgs}
+use Rattle.logical_trees.specs.declared.args.CallArgs.{CallArgs}
 use Rattle.script_meaning.specs.Script.{Call, Grouping, Query}
 use Rattle.script_meaning.specs.Meaning.{key_places, order_list}
 

@@ -3,9 +3,9 @@ use Rattle.std.specs.Prelude.{◌≡◌, ℕ, List, [], ◌∷◌, ◌++◌, map
 use Rattle.std.specs.List.{range_with_len}
 use Rattle.col_sets.specs.declared.dir.Dir.{Dir}
 use Rattle.col_sets.specs.Sets.{count}
-use Rattle.logical_dag.specs.Tree.{Expression, columns_of}
-use Rattle.logical_dag.specs.Rows.{order_of}
-use Rattle.logical_dag.specs.Formed.{IsOrderOver}
+use Rattle.logical_trees.specs.Tree.{Expression, columns_of}
+use Rattle.logical_trees.specs.Rows.{order_of}
+use Rattle.logical_trees.specs.Formed.{IsOrderOver}
 use Rattle.logical_dag.specs.Scripts.{scans_of, IsWritten}
 use Rattle.script_meaning.specs.Script.{Statement}
 use Rattle.script_meaning.specs.Placed.{IsPlaced}

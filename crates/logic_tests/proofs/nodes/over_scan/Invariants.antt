@@ -1,5 +1,5 @@
 -- The expression so far calls no other operators.
-use Rattle.logical_dag.specs.Tree.{tree_of}
+use Rattle.logical_trees.specs.Tree.{tree_of}
 use Rattle.logic_tests.specs.Calling.{AreCalledFirst}
 use Rattle.logic_tests.proofs.nodes.over_scan.Given as goal
 

@@ -1,5 +1,5 @@
 use Rattle.std.proofs.Common.{[], ◌∷◌, ◌++◌, ap, ◌∙◌}
-use Rattle.logical_dag.specs.Tree.{tree_of}
+use Rattle.logical_trees.specs.Tree.{tree_of}
 use Rattle.logic_tests.proofs.WorkedBindable.{written-bindable}
 use Rattle.logic_tests.proofs.scripts.script_of.Goals as goal
 

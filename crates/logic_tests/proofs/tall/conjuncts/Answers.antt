@@ -1,6 +1,6 @@
 use Rattle.std.proofs.Common.{sym, subst}
 use Rattle.script_trees.specs.declared.op.PairOp.TheVariants.{And}
-use Rattle.logical_dag.specs.Formed.{IsOver}
+use Rattle.logical_trees.specs.Formed.{IsOver}
 use Rattle.logic_tests.specs.Tall.{four_columns}
 use Rattle.logic_tests.proofs.TallFormed.{pair-over, made-over}
 use Rattle.logic_tests.proofs.tall.conjuncts.Goals as goal

@@ -1,7 +1,7 @@
 use Rattle.std.proofs.Common.{◌≡◌, sym, subst}
 use Rattle.std.proofs.lemmas.Result.{IfOk-weaker}
-use Rattle.logical_dag.specs.declared.logic_op.LogicOp.TheVariants.{Filter}
-use Rattle.logical_dag.specs.Tree.{one, tree_of}
+use Rattle.logical_trees.specs.declared.logic_op.LogicOp.TheVariants.{Filter}
+use Rattle.logical_trees.specs.Tree.{one, tree_of}
 use Rattle.logic_tests.specs.Tall.{IsOverFour}
 use Rattle.logic_tests.proofs.TallFormed.{rows-over, filter-over}
 use Rattle.logic_tests.proofs.tall.filtered.Goals as goal

@@ -1,5 +1,5 @@
 use Rattle.std.proofs.Common.{sym, subst}
-use Rattle.logical_dag.specs.Tree.{tree_of}
+use Rattle.logical_trees.specs.Tree.{tree_of}
 use Rattle.logic_tests.specs.Tall.{IsOverFour}
 use Rattle.logic_tests.proofs.TallFormed.{filter-over}
 use Rattle.logic_tests.proofs.tall.filters.Goals as goal

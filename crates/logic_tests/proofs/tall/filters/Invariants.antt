@@ -1,5 +1,5 @@
 -- The expression so far is formed, and its columns stay those of the scan.
-use Rattle.logical_dag.specs.Tree.{tree_of}
+use Rattle.logical_trees.specs.Tree.{tree_of}
 use Rattle.logic_tests.specs.Tall.{IsOverFour}
 use Rattle.logic_tests.proofs.tall.filters.Given as goal
 

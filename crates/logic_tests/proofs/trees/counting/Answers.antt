@@ -1,8 +1,8 @@
 use Rattle.std.proofs.Common.{◌≡◌, ℕ, List, [], ◌∷◌, ◌++◌, None, refl, ap, ap₂, ◌∙◌}
 use Rattle.col_sets.specs.Sets.{columns_where, with_column}
 use Rattle.script_trees.specs.declared.agg.AggKind.TheVariants.{Count}
-use Rattle.logical_dag.specs.declared.agg.Agg.{Agg}
-use Rattle.logical_dag.specs.declared.args.GroupArgs.{GroupArgs}
+use Rattle.logical_trees.specs.declared.agg.Agg.{Agg}
+use Rattle.logical_trees.specs.declared.args.GroupArgs.{GroupArgs}
 use Rattle.logic_tests.proofs.trees.counting.Goals as goal
 
 only : with_column [] 1 ≡ 1 ∷ []

@@ -1,11 +1,11 @@
 -- A node that is no Join is its only leaf, and a Join has the leaves of its sides, the left ones first.
 use Rattle.std.proofs.Common.{subst, rules}
-use Rattle.logical_dag.specs.declared.logical.Logical.TheViews.{the_lemmas}
-use Rattle.logical_dag.specs.Tree.{tree_of}
-use Rattle.logical_dag.specs.Formed.{IsFormed}
+use Rattle.logical_trees.specs.declared.logical.Logical.TheViews.{the_lemmas}
+use Rattle.logical_trees.specs.Tree.{tree_of}
+use Rattle.logical_trees.specs.Formed.{IsFormed}
 use Rattle.logical_dag.specs.Laws.{lent_columns}
 use Rattle.logical_dag.specs.Gathered.{IsApartFrom}
-use Rattle.logical_dag.proofs.BlockShapes.{other_kind, few_kids, tree_join}
+use Rattle.logical_trees.specs.BlockShapeLemmas.{other_kind, few_kids, tree_join}
 use Rattle.logical_dag.proofs.Gathering.{leaf_mask, leaf_added, left_apart, right_apart, right_over, join_added, join_mask}
 use Rattle.logical_dag.proofs.block_facts.+with_leaves.Goals as goal
 

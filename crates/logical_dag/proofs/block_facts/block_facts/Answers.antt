@@ -1,9 +1,9 @@
 -- From nothing known, the leaves are added and then the pairs.
-use Rattle.logical_dag.specs.Tree.{tree_of}
+use Rattle.logical_trees.specs.Tree.{tree_of}
 use Rattle.logical_dag.specs.Laws.{lent_columns}
-use Rattle.logical_dag.specs.Places.{block_leaves, block_pairs, chosen}
+use Rattle.logical_trees.specs.Blocks.{block_leaves, block_pairs, chosen}
 use Rattle.logical_dag.proofs.Added.{blank_over, added_over, facts_of_all}
-use Rattle.logical_dag.proofs.Blocks.{chosen_formed}
+use Rattle.logical_trees.specs.BlockLemmas.{chosen_formed}
 use Rattle.logical_dag.proofs.block_facts.block_facts.Goals as goal
 
 pub with_leaves-gathered-requires-clause-over : goal.with_leaves-gathered-requires-clause-over

@@ -2,7 +2,7 @@
 use Rattle.std.proofs.Common.{◌≡◌, ℕ, ◌%◌, nat_eq, true, false, cond, List, [], ◌∷◌, arith}
 use Rattle.std.proofs.lemmas.Bool.Decides.{nat_tests}
 use Rattle.fd_closure.specs.declared.facts.Facts.{Facts}
-use Rattle.logical_dag.specs.Tree.{Expression, tree_of}
+use Rattle.logical_trees.specs.Tree.{Expression, tree_of}
 use Rattle.logical_dag.specs.Laws.{lent_columns}
 use Rattle.logical_dag.specs.Gathered.{AreAdded}
 use Rattle.logical_dag.proofs.Added.{none_added}

@@ -1,5 +1,5 @@
 -- The leaf has no column of the others, so no column has two dependencies.
-use Rattle.logical_dag.specs.Tree.{tree_of}
+use Rattle.logical_trees.specs.Tree.{tree_of}
 use Rattle.logical_dag.specs.Laws.{lent_columns}
 use Rattle.logical_dag.proofs.LeafFacts.{one_added, leaf_apart}
 use Rattle.logical_dag.proofs.block_facts.with_leaf.Goals as goal

@@ -1,12 +1,12 @@
 -- A node that is no Join has no pairs, and a Join has those of its sides and its own.
 use Rattle.std.proofs.Common.{List, ℕ, ap, sym, subst, rules}
 use Rattle.fd_closure.specs.declared.facts.Facts.{Facts}
-use Rattle.logical_dag.specs.declared.logical.Logical.{Logical}
+use Rattle.logical_trees.specs.declared.logical.Logical.{Logical}
 use Rattle.logical_dag.specs.Known.{IsOwn, AreClasses}
-use Rattle.logical_dag.specs.Tree.{tree_of}
-use Rattle.logical_dag.specs.Places.{block_pairs}
-use Rattle.logical_dag.proofs.Shapes.{tree_two}
-use Rattle.logical_dag.proofs.BlockShapes.{IsNoJoin, no_join_pairs, other_kind, few_kids}
+use Rattle.logical_trees.specs.Tree.{tree_of}
+use Rattle.logical_trees.specs.Blocks.{block_pairs}
+use Rattle.logical_trees.specs.ShapeLemmas.{tree_two}
+use Rattle.logical_trees.specs.BlockShapeLemmas.{IsNoJoin, no_join_pairs, other_kind, few_kids}
 use Rattle.logical_dag.proofs.PairFacts.{EqualOrInside, no_pairs, rest_kept, block_pairs_both}
 use Rattle.logical_dag.proofs.block_pairs.+with_block_pairs.Goals as goal
 

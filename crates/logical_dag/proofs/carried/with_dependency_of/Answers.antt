@@ -3,7 +3,7 @@ use Rattle.col_sets.specs.Sets.{has}
 use Rattle.fd_closure.specs.Known.{by_of}
 use Rattle.logical_dag.specs.Facts.{IsRenamedSet}
 use Rattle.logical_dag.specs.Known.{name_of}
-use Rattle.logical_dag.proofs.Reading.{read_at}
+use Rattle.list_lemmas.specs.Reading.{read_at}
 use Rattle.logical_dag.proofs.Carrying.{dependency_added}
 use Rattle.logical_dag.proofs.carried.with_dependency_of.Goals as goal
 

@@ -1,6 +1,6 @@
 use Rattle.std.proofs.Common.{◌≡◌, ◌<◌, ℕ, List, [], true, false, subst, sym, length, rules, slice_set}
 use Rattle.col_sets.specs.Sets.{has, with_column}
-use Rattle.logical_dag.proofs.Reading.{read_at}
+use Rattle.list_lemmas.specs.Reading.{read_at}
 use Rattle.logical_dag.proofs.Carrying.{same_added, same_none}
 use Rattle.logical_dag.proofs.carried.with_same_dependency.Goals as goal
 

@@ -1,11 +1,11 @@
 use Rattle.std.proofs.Common.{◌≡◌, ℕ, ◌+◌, List, [], ◌∷◌, ◌++◌, length, sym, ap, ◌∙◌, arith, append_assoc}
 use Rattle.std.specs.Prelude.{Result, Ok, Err, MatchResult}
 use Rattle.std.specs.Borrow.{Bor}
-use Rattle.logical_dag.specs.declared.logical.Logical.{Logical}
-use Rattle.logical_dag.specs.Tree.{Expression, nodes, tree_of}
+use Rattle.logical_trees.specs.declared.logical.Logical.{Logical}
+use Rattle.logical_trees.specs.Tree.{Expression, nodes, tree_of}
 use Rattle.logical_dag.specs.Found.{IsNodeAt}
-use Rattle.logical_dag.proofs.Shapes.{tree_one, tree_two}
-use Rattle.logical_dag.proofs.NodeLemmas.{get_front, get_past, get_last, past_last, past_both}
+use Rattle.logical_trees.specs.ShapeLemmas.{tree_one, tree_two}
+use Rattle.list_lemmas.specs.Reading.{get_front, get_past, get_last, past_last, past_both}
 use Rattle.logical_dag.proofs.finding.+node_at.Goals as goal
 
 -- past the nodes of the children stands the node itself

@@ -1,5 +1,5 @@
 -- Of a node with one child the facts go up from it; with two, those on the right are worked out beside those on the left.
-use Rattle.logical_dag.specs.Tree.{tree_of}
+use Rattle.logical_trees.specs.Tree.{tree_of}
 use Rattle.logical_dag.specs.Laws.{lent_columns}
 use Rattle.logical_dag.proofs.KnownTables.{facts_own, joined_apart}
 use Rattle.logical_dag.proofs.known.+known.Goals as goal

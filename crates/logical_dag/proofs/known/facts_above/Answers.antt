@@ -1,8 +1,8 @@
 use Rattle.std.proofs.Common.{List, subst, sym}
 use Rattle.scope_expr.specs.declared.expr.Expr.{Expr}
-use Rattle.logical_dag.specs.declared.logic_op.LogicOp.{LogicOp}
-use Rattle.logical_dag.specs.Formed.{IsOneFormed}
-use Rattle.logical_dag.specs.Tree.{one, columns_of}
+use Rattle.logical_trees.specs.declared.logic_op.LogicOp.{LogicOp}
+use Rattle.logical_trees.specs.Formed.{IsOneFormed}
+use Rattle.logical_trees.specs.Tree.{one, columns_of}
 use Rattle.logical_dag.specs.Facts.{AreFactsOf}
 use Rattle.logical_dag.specs.Laws.{lent_columns}
 use Rattle.logical_dag.specs.Known.{AreProjected}

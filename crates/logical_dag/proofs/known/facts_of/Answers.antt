@@ -1,4 +1,4 @@
-use Rattle.logical_dag.specs.Tree.{tree_of}
+use Rattle.logical_trees.specs.Tree.{tree_of}
 use Rattle.logical_dag.specs.Laws.{lent_columns}
 use Rattle.logical_dag.proofs.KnownHold.{facts_hold}
 use Rattle.logical_dag.proofs.known.facts_of.Goals as goal

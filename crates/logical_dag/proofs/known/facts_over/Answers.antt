@@ -1,8 +1,8 @@
 use Rattle.std.proofs.Common.{◌<◌, ℕ, List, subst, sym}
 use Rattle.std.specs.Prelude.{All}
-use Rattle.logical_dag.specs.declared.logic_op.LogicOp.{LogicOp}
-use Rattle.logical_dag.specs.Formed.{IsTwoFormed}
-use Rattle.logical_dag.specs.Tree.{two}
+use Rattle.logical_trees.specs.declared.logic_op.LogicOp.{LogicOp}
+use Rattle.logical_trees.specs.Formed.{IsTwoFormed}
+use Rattle.logical_trees.specs.Tree.{two}
 use Rattle.logical_dag.specs.Facts.{AreFactsOf}
 use Rattle.logical_dag.specs.Laws.{lent_columns}
 use Rattle.logical_dag.specs.Known.{AreJoined}

@@ -1,7 +1,7 @@
 use Rattle.std.proofs.Common.{◌≡◌, ◌∙◌, ◌⊎◌, ◌<◌, List, false, true, subst, sym}
 use Rattle.std.specs.Prelude.{All, Any}
 use Rattle.col_sets.specs.Sets.{has, count}
-use Rattle.logical_dag.specs.declared.agg.Agg.{Agg}
+use Rattle.logical_trees.specs.declared.agg.Agg.{Agg}
 use Rattle.logical_dag.specs.Known.{AreConstants, AreDependencies, IsDependency}
 use Rattle.logical_dag.proofs.KnownSteps.{key_free, grouped_none, grouped_some}
 use Rattle.logical_dag.proofs.known.grouped.Goals as goal

@@ -1,12 +1,12 @@
 use Rattle.std.proofs.Common.{◌≡◌, ◌<◌, ◌≤◌, length, Some, subst, sym, rules, slice_get}
 use Rattle.std.proofs.lemmas.Option.{slice_get_past}
-use Rattle.logical_dag.specs.declared.logic_op.LogicOp.{LogicOp}
-use Rattle.logical_dag.specs.Formed.{IsFormed}
-use Rattle.logical_dag.specs.Tree.{leaf}
+use Rattle.logical_trees.specs.declared.logic_op.LogicOp.{LogicOp}
+use Rattle.logical_trees.specs.Formed.{IsFormed}
+use Rattle.logical_trees.specs.Tree.{leaf}
 use Rattle.logical_dag.specs.Facts.{AreFactsOf}
 use Rattle.logical_dag.specs.Laws.{lent_columns}
 use Rattle.logical_dag.specs.Known.{IsLentSet}
-use Rattle.logical_dag.proofs.Reading.{read_some}
+use Rattle.list_lemmas.specs.Reading.{read_some}
 use Rattle.logical_dag.proofs.KnownTables.{ref_facts, scan_facts, bare_facts, lent_set, lent_there, bare_set}
 use Rattle.logical_dag.proofs.known.leaf_facts.Goals as goal
 

@@ -1,7 +1,7 @@
 -- The node of the place is formed, and each expression at the place is a part of it.
 use Rattle.std.proofs.Common.{ℕ, ◌≤◌, List, take, length, sym, subst, arith}
-use Rattle.logical_dag.specs.Tree.{nodes, tree_of}
-use Rattle.logical_dag.specs.Formed.{IsFormed}
+use Rattle.logical_trees.specs.Tree.{nodes, tree_of}
+use Rattle.logical_trees.specs.Formed.{IsFormed}
 use Rattle.logical_dag.specs.Places.{AreFactsAt}
 use Rattle.logical_dag.proofs.Placed.{at_node, node_formed, node_there}
 use Rattle.logical_dag.proofs.SharedFacts.{shared_lent, hold_at}

@@ -1,12 +1,12 @@
 -- Only a Group and a Top over one child have a first step.
 use Rattle.std.proofs.Common.{subst, ap, ◌∙◌, arith}
-use Rattle.logical_dag.specs.declared.logical.Logical.{out-Logical}
+use Rattle.logical_trees.specs.declared.logical.Logical.{out-Logical}
 use Rattle.logical_dag.specs.declared.place.PlacePart.TheVariants.{Lower}
-use Rattle.logical_dag.specs.Tree.{one, tree_of}
-use Rattle.logical_dag.specs.Formed.{IsFormed}
+use Rattle.logical_trees.specs.Tree.{one, tree_of}
+use Rattle.logical_trees.specs.Formed.{IsFormed}
 use Rattle.logical_dag.specs.Laws.{lent_columns}
 use Rattle.logical_dag.specs.Places.{IsPart}
-use Rattle.logical_dag.proofs.Shapes.{tree_one}
+use Rattle.logical_trees.specs.ShapeLemmas.{tree_one}
 use Rattle.logical_dag.proofs.KnownTables.{partial_facts}
 use Rattle.logical_dag.proofs.PartFacts.{group_lower, top_lower, other_step, other_kids}
 use Rattle.logical_dag.proofs.known_at.lower_facts.Goals as goal

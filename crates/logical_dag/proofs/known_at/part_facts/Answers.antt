@@ -1,6 +1,6 @@
 -- The facts of the chosen leaves are those of each join of them.
 use Rattle.std.proofs.Common.{subst}
-use Rattle.logical_dag.specs.Tree.{tree_of}
+use Rattle.logical_trees.specs.Tree.{tree_of}
 use Rattle.logical_dag.specs.Laws.{lent_columns}
 use Rattle.logical_dag.specs.Places.{IsPart}
 use Rattle.logical_dag.proofs.PartFacts.{leaves_facts}

@@ -1,8 +1,8 @@
 -- Each tree is formed over the facts found so far, and its facts are put after them.
 use Rattle.std.proofs.Common.{◌≡◌, ℕ, ◌<◌, ◌≤◌, List, length, map, get_or, ap, ◌∙◌, subst, arith, slice_get, Some, length-set}
 use Rattle.std.proofs.lemmas.List.{length-map}
-use Rattle.logical_dag.specs.declared.logical.Logical.{Logical}
-use Rattle.logical_dag.specs.Tree.{tree_of}
+use Rattle.logical_trees.specs.declared.logical.Logical.{Logical}
+use Rattle.logical_trees.specs.Tree.{tree_of}
 use Rattle.logical_dag.proofs.FirstFacts.{first_put, next_formed, first_all, tree_got}
 use Rattle.logical_dag.proofs.known_at.shared_facts.Goals as goal
 

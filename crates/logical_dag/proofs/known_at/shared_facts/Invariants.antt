@@ -1,6 +1,6 @@
 -- So far the places have the facts of the trees before the index.
 use Rattle.std.proofs.Common.{◌≡◌, map, length}
-use Rattle.logical_dag.specs.Tree.{tree_of}
+use Rattle.logical_trees.specs.Tree.{tree_of}
 use Rattle.logical_dag.proofs.FirstFacts.{AreFirstFacts}
 use Rattle.logical_dag.proofs.known_at.shared_facts.Given as goal
 

@@ -1,7 +1,7 @@
 use Rattle.std.proofs.Common.{◌≡◌, true, sym, ap, ◌∙◌, arith, slice_get}
 use Rattle.col_sets.specs.Sets.{has, rank}
 use Rattle.col_sets.specs.Columns.{rank_place}
-use Rattle.logical_dag.proofs.KnownColumns.{no_column}
+use Rattle.logical_trees.specs.ColumnLemmas.{no_column}
 use Rattle.logical_dag.proofs.naming.column_at.Goals as goal
 
 pub returns-then-rank-place : goal.returns-then-rank-place

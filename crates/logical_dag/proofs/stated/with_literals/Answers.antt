@@ -1,7 +1,7 @@
 use Rattle.std.proofs.Common.{◌≡◌, ◌<◌, ◌≤◌, ℕ, true, arith, length, refl, rules, Some, slice_get}
 use Rattle.std.specs.Prelude.{IsSomeAnd}
 use Rattle.logical_dag.specs.Facts.{is_literal}
-use Rattle.logical_dag.proofs.Reading.{read_some}
+use Rattle.list_lemmas.specs.Reading.{read_some}
 use Rattle.logical_dag.proofs.OneBelow.{constants_first, constants_done}
 use Rattle.logical_dag.proofs.LiteralFacts.{IsLiteralAt, literal_step, literals_there, literals_back}
 use Rattle.logical_dag.proofs.stated.with_literals.Goals as goal

@@ -1,5 +1,5 @@
 use Rattle.std.proofs.Common.{◌<◌, ◌≤◌, arith, length, refl, rules, slice_index_or}
-use Rattle.logical_dag.proofs.Reading.{read_again}
+use Rattle.list_lemmas.specs.Reading.{read_again}
 use Rattle.logical_dag.proofs.PairsBelow.{pairs_first, pairs_step, pairs_done}
 use Rattle.logical_dag.proofs.stated.with_pairs.Goals as goal
 

@@ -1,5 +1,5 @@
 use Rattle.std.proofs.Common.{◌<◌, ◌≤◌, arith, length, refl, rules}
-use Rattle.logical_dag.proofs.Reading.{read_some}
+use Rattle.list_lemmas.specs.Reading.{read_some}
 use Rattle.logical_dag.proofs.ItemFacts.{items_first, items_step, items_done}
 use Rattle.logical_dag.proofs.stated.with_same_items.Goals as goal
 

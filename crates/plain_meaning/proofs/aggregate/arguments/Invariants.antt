@@ -1,5 +1,5 @@
 use Rattle.std.proofs.Common.{◌≡◌, take, map}
-use Rattle.logical_dag.specs.Rows.{argument}
+use Rattle.logical_trees.specs.Rows.{argument}
 use Rattle.plain_meaning.proofs.aggregate.arguments.Given as goal
 
 abbrev pub invariant-loop-row : goal.invariant-loop-row

@@ -1,7 +1,7 @@
 use Rattle.std.proofs.Common.{◌≡◌, List, map, IfOk, ap, ◌∙◌, subst}
 use Rattle.scope_value.specs.declared.value.Value.{Value}
 use Rattle.structural_props.specs.Rows.{value_at}
-use Rattle.logical_dag.specs.Rows.{together, fitted}
+use Rattle.logical_trees.specs.Rows.{together, fitted}
 use Rattle.plain_meaning.proofs.aggregate.finished_value.Goals as goal
 
 pub returns : goal.returns

@@ -2,9 +2,9 @@ use Rattle.std.proofs.Common.{◌≡◌, ◌<◌, ◌+◌, length, take, get_or,
 use Rattle.std.proofs.lemmas.List.{take_more}
 use Rattle.scope_value.specs.Keys.{directed}
 use Rattle.scope_value.specs.Order.{value_cmp}
-use Rattle.logical_dag.specs.Rows.{first_in}
-use Rattle.logical_dag.specs.First.{first_of}
-use Rattle.logical_dag.proofs.Aggregates.{first_in-push, directed_total, directed_exact}
+use Rattle.logical_trees.specs.Rows.{first_in}
+use Rattle.logical_trees.specs.First.{first_of}
+use Rattle.logical_trees.specs.AggregateLemmas.{first_in-push, directed_total, directed_exact}
 use Rattle.plain_meaning.proofs.aggregate.first_in.Goals as goal
 
 pub loop-value-preserved : goal.loop-value-preserved

@@ -1,6 +1,6 @@
 use Rattle.std.proofs.Common.{◌≡◌, take}
 use Rattle.std.specs.List.{flat_map}
-use Rattle.logical_dag.specs.Rows.{in_order, order_of, with_key, left_columns, right_columns}
+use Rattle.logical_trees.specs.Rows.{in_order, order_of, with_key, left_columns, right_columns}
 use Rattle.plain_meaning.proofs.calls.combine_each.Given as goal
 
 abbrev pub invariant-loop-k : goal.invariant-loop-k

@@ -1,6 +1,6 @@
 use Rattle.std.proofs.Common.{◌≡◌, take}
 use Rattle.std.specs.List.{flat_map}
-use Rattle.logical_dag.specs.Rows.{in_order, order_of, with_key}
+use Rattle.logical_trees.specs.Rows.{in_order, order_of, with_key}
 use Rattle.plain_meaning.proofs.calls.reduce_each.Given as goal
 
 abbrev pub invariant-loop-k : goal.invariant-loop-k

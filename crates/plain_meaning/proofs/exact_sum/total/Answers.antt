@@ -1,8 +1,8 @@
 use Rattle.std.proofs.Common.{◌≡◌, ◌<◌, ◌+◌, ◌+ℤ◌, length, take, [], ◌∷◌, ◌++◌, sym, ap, ap₂, ◌∙◌, arith}
 use Rattle.std.proofs.lemmas.Int.{ints}
 use Rattle.std.proofs.lemmas.List.{take_more}
-use Rattle.logical_dag.specs.Rows.{total}
-use Rattle.logical_dag.proofs.Aggregates.{total-push}
+use Rattle.logical_trees.specs.Rows.{total}
+use Rattle.logical_trees.specs.AggregateLemmas.{total-push}
 use Rattle.plain_meaning.specs.Sums.{sum_of}
 use Rattle.plain_meaning.proofs.exact_sum.total.Goals as goal
 

@@ -1,5 +1,5 @@
 use Rattle.std.proofs.Common.{◌≡◌, pos, neg_ℤ, ◌≤ℤ◌, take}
-use Rattle.logical_dag.specs.Rows.{total}
+use Rattle.logical_trees.specs.Rows.{total}
 use Rattle.plain_meaning.specs.Sums.{sum_of}
 use Rattle.plain_meaning.proofs.exact_sum.total.Given as goal
 

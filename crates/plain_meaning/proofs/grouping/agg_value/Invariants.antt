@@ -1,5 +1,5 @@
 use Rattle.std.proofs.Common.{◌≡◌, drop}
-use Rattle.logical_dag.specs.Rows.{agg_at}
+use Rattle.logical_trees.specs.Rows.{agg_at}
 use Rattle.plain_meaning.specs.Steps.{value_of}
 use Rattle.plain_meaning.proofs.grouping.agg_value.Given as goal
 

@@ -1,5 +1,5 @@
 use Rattle.std.proofs.Common.{◌≡◌, [], ◌∷◌, take, map}
-use Rattle.logical_dag.specs.Rows.{partial_value}
+use Rattle.logical_trees.specs.Rows.{partial_value}
 use Rattle.plain_meaning.specs.Steps.{value_in}
 use Rattle.plain_meaning.proofs.grouping.part_row.Given as goal
 

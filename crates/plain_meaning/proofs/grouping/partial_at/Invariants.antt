@@ -1,5 +1,5 @@
 use Rattle.std.proofs.Common.{◌≡◌, [], ◌∷◌, drop}
-use Rattle.logical_dag.specs.Rows.{agg_at, partial_value}
+use Rattle.logical_trees.specs.Rows.{agg_at, partial_value}
 use Rattle.plain_meaning.proofs.grouping.partial_at.Given as goal
 
 abbrev pub invariant-loop-agg : goal.invariant-loop-agg

@@ -1,5 +1,5 @@
 use Rattle.std.proofs.Common.{◌≡◌, take}
-use Rattle.logical_dag.specs.Rows.{rows_of_keys}
+use Rattle.logical_trees.specs.Rows.{rows_of_keys}
 use Rattle.plain_meaning.specs.Steps.{value_of}
 use Rattle.plain_meaning.proofs.grouping.rows_of_keys.Given as goal
 

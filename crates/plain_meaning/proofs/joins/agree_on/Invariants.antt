@@ -1,5 +1,5 @@
 use Rattle.std.proofs.Common.{◌≡◌, drop}
-use Rattle.logical_dag.specs.Rows.{agree_on}
+use Rattle.logical_trees.specs.Rows.{agree_on}
 use Rattle.plain_meaning.proofs.joins.agree_on.Given as goal
 
 abbrev pub invariant-loop-mine : goal.invariant-loop-mine

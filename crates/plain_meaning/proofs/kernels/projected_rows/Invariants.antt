@@ -1,5 +1,5 @@
 use Rattle.std.proofs.Common.{◌≡◌, map, take}
-use Rattle.logical_dag.specs.Rows.{projected}
+use Rattle.logical_trees.specs.Rows.{projected}
 use Rattle.plain_meaning.proofs.kernels.projected_rows.Given as goal
 
 abbrev pub invariant-loop-row : goal.invariant-loop-row

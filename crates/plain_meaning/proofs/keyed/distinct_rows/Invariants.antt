@@ -1,5 +1,5 @@
 use Rattle.std.proofs.Common.{◌≡◌, take}
-use Rattle.logical_dag.specs.Rows.{distinct}
+use Rattle.list_lemmas.specs.Distinct.{distinct}
 use Rattle.plain_meaning.proofs.keyed.distinct_rows.Given as goal
 
 abbrev pub invariant-loop-row : goal.invariant-loop-row

@@ -1,5 +1,5 @@
 use Rattle.std.proofs.Common.{◌≡◌, take}
-use Rattle.logical_dag.specs.Rows.{with_key}
+use Rattle.logical_trees.specs.Rows.{with_key}
 use Rattle.plain_meaning.proofs.keyed.rows_with_key.Given as goal
 
 abbrev pub invariant-loop-row : goal.invariant-loop-row

@@ -1,7 +1,7 @@
 use Rattle.user_ops.specs.contracts.op_set.OpSetTells.TheImpl as impl
-use Rattle.logical_dag.specs.Tree.{tree_of}
-use Rattle.logical_dag.specs.declared.logical.Logical.{out-Logical}
-use Rattle.logical_dag.proofs.Shapes.{tree_two}
+use Rattle.logical_trees.specs.Tree.{tree_of}
+use Rattle.logical_trees.specs.declared.logical.Logical.{out-Logical}
+use Rattle.logical_trees.specs.ShapeLemmas.{tree_two}
 use Rattle.plain_meaning.specs.Plain.{sources}
 use Rattle.plain_meaning.proofs.PlainLemmas.{two_stands}
 use Rattle.plain_meaning.proofs.plain.+plain_bag.Goals as goal

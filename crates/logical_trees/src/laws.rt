@@ -1,0 +1,21 @@
+// What bags that stand for expressions keep, whatever the operators and the rows that they draw on.
+ghost use Rattle.logical_trees.specs.Laws.{IsOrderFree, HasOneBag, HasSomeBag, KeepsBelow, KeepsBeside, IsSplitGroupKept, IsSplitTopKept};
+
+/// What stands for an expression does so in any order, and exactly one bag stands for a whole one.
+pub fn bag_law()
+    ensures order_free { IsOrderFree }
+    ensures one { HasOneBag }
+    ensures some { HasSomeBag }
+{}
+
+/// A child may be replaced by one with the same bags.
+pub fn replacement_law()
+    ensures below { KeepsBelow }
+    ensures beside { KeepsBeside }
+{}
+
+/// A Group and a Top give the same bags in two steps, however the rows are divided between the first steps.
+pub fn split_law()
+    ensures group { IsSplitGroupKept }
+    ensures top { IsSplitTopKept }
+{}
