@@ -7,8 +7,8 @@ use Rattle.logical_trees.specs.declared.logic_op.LogicOp.{LogicOp}
 use Rattle.logical_trees.specs.declared.logic_op.LogicOp.TheVariants.{Scan, Ref}
 use Rattle.logical_trees.specs.Tree.{Expression, leaf, one, two}
 use Rattle.logical_dag.specs.Facts.{result_columns}
-use Rattle.parts_nodes.specs.Frame.{is_copies}
-use Rattle.parts_nodes.specs.Tables.{width}
+use Rattle.structural_props.specs.Named.{is_copies}
+use Rattle.structural_props.specs.Handed.{width}
 use Rattle.parts_plans.specs.Kinds.{PlanKind, hash_agg, hash_partial, hash_finish, hash_join, sort, hash_any, hash_merge, range_any, one_any, one_merge, one_concat, broadcast, scan_delivers, ref_delivers}
 use Rattle.parts_plans.specs.Plans.{Plan, Env, Delivers, stream_at, scheme_at}
 use Rattle.rules_plans.specs.Alike.{EnforcerDelivers, NodeDelivers, PairDelivers}

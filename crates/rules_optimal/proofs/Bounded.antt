@@ -7,7 +7,7 @@ use Rattle.prop_matching.specs.Worth.{matches_by}
 use Rattle.logical_trees.specs.declared.logic_op.LogicOp.{LogicOp}
 use Rattle.logical_trees.specs.Tree.{Expression, leaf, one, two, columns_of}
 use Rattle.logical_dag.specs.Facts.{AreFactsOf}
-use Rattle.parts_nodes.specs.Tables.{width}
+use Rattle.structural_props.specs.Handed.{width}
 use Rattle.parts_plans.specs.Kinds.{PlanKind, scan, ref, hash_any, hash_merge, range_any, one_any, one_merge, one_concat, sort, broadcast, one_fits, one_needs, one_delivers, left_needs, right_needs}
 use Rattle.parts_plans.specs.Plans.{Plan, Env, IsMet, StepDelivers, Delivers}
 use Rattle.parts_plans.proofs.OneProperty.{matches_alike}

@@ -10,7 +10,7 @@ use Rattle.logical_trees.specs.Tree.{Expression, leaf, one, two, columns_of}
 use Rattle.logical_dag.specs.Facts.{AreFactsOf}
 use Rattle.logical_trees.specs.Blocks.{IsPairing}
 use Rattle.list_lemmas.specs.Members.{in_list, list_in}
-use Rattle.parts_nodes.specs.Tables.{width}
+use Rattle.structural_props.specs.Handed.{width}
 use Rattle.parts_plans.specs.Kinds.{PlanKind, hash_any, hash_merge, range_any, one_any, one_merge, one_concat, sort, broadcast, hash_join, merge_join, one_fits, one_needs, one_delivers, TwoFits, HasPlace, left_needs, right_needs, two_delivers}
 use Rattle.parts_plans.specs.Plans.{Plan, Env, StepDelivers, Delivers}
 use Rattle.rules_plans.specs.Alike.{EnforcerDelivers, NodeDelivers}

@@ -4,7 +4,7 @@ use Rattle.structural_props.specs.declared.property.Delivered.{Delivered}
 use Rattle.prop_matching.specs.Worth.{matches_by}
 use Rattle.logical_trees.specs.declared.logic_op.LogicOp.{LogicOp}
 use Rattle.logical_trees.specs.Tree.{leaf, one, two}
-use Rattle.parts_nodes.specs.Tables.{width}
+use Rattle.structural_props.specs.Handed.{width}
 use Rattle.parts_plans.specs.Kinds.{PlanKind, one_fits, one_needs, one_delivers, TwoFits, HasPlace, left_needs, right_needs, two_delivers}
 use Rattle.parts_plans.specs.Plans.{Plan, Delivers}
 use Rattle.rules_plans.specs.Laws.{is_enforcer}

@@ -13,8 +13,8 @@ use Rattle.logical_trees.specs.declared.logic_op.LogicOp.{LogicOp}
 use Rattle.logical_trees.specs.Tree.{Expression, leaf, one, two, columns_of}
 use Rattle.logical_dag.specs.Facts.{AreFactsOf}
 use Rattle.logical_trees.specs.Blocks.{IsPairing}
-use Rattle.parts_nodes.specs.Frame.{IsDealt}
-use Rattle.parts_nodes.specs.Tables.{width, orders_of, has_rest}
+use Rattle.structural_props.specs.Named.{IsDealt}
+use Rattle.structural_props.specs.Handed.{width, orders_of, has_rest}
 use Rattle.parts_plans.specs.Kinds.{PlanKind, hash_any, hash_merge, range_any, one_any, one_merge, one_concat, sort, broadcast, one_fits, one_needs, one_delivers, TwoFits, HasPlace, left_needs, right_needs, two_delivers}
 use Rattle.parts_plans.specs.Plans.{Plan, Env, Delivers}
 use Rattle.rules_plans.specs.Alike.{EnforcerDelivers, NodeDelivers, PairDelivers}
