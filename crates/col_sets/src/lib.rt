@@ -1,6 +1,6 @@
 //! Sets of columns, and the lists of columns by which rows are keyed and ordered.
 //!
-//! A set is seen by contracts as the ascending list of its members, which are below 128. Nothing here takes memory.
+//! A set is seen by contracts as the ascending list of its members, which are below 128. No call here is handed an allocator.
 #![tactic(auto)]
 
 mod col_set;

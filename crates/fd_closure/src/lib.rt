@@ -1,7 +1,7 @@
 //! What is known of the rows of a bag, and which columns a set of columns determines.
 //!
 //! `closure` answers the least set that has the given columns and the constants and is closed under the dependencies
-//! and the equal columns, as the textbook's closure of attributes (Armstrong, 1974). Nothing here takes memory.
+//! and the equal columns, as the textbook's closure of attributes (Armstrong, 1974). No call here is handed an allocator.
 #![tactic(auto)]
 
 mod closures;

@@ -34,7 +34,7 @@ impl Model for Batch {
 }
 
 impl Batch {
-    /// No rows. Takes no memory.
+    /// No rows.
     pub fn new(alloc: Global, width: u32) -> Batch
         ensures width { result.width ≡ width }
         ensures rows { result.rows ≡ [] }

@@ -21,7 +21,7 @@ impl Model for BatchList {
 }
 
 impl BatchList {
-    /// No batch. Takes no memory.
+    /// No batch.
     pub fn new(alloc: Global) -> BatchList
         ensures { result ≡ [] }
     {

@@ -46,7 +46,7 @@ pub fn eval(e: &Expr, cols: ColSet, row: &Row) -> Result<Value, AllocError>
     held(e, cols, row).into_value()
 }
 
-/// Whether the predicate holds of the row: its value is true. A null predicate does not hold. No memory is taken.
+/// Whether the predicate holds of the row: its value is true. A null predicate does not hold.
 pub fn holds(e: &Expr, cols: ColSet, row: &Row) -> bool
     ensures { result ≡ spec.holds e.now cols row.now }
 {
