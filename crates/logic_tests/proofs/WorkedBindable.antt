@@ -12,7 +12,8 @@ use Rattle.logical_trees.specs.Tree.{Expression, tree_of, columns_of}
 use Rattle.logical_trees.specs.Rows.{order_of}
 use Rattle.logical_trees.specs.Formed.{IsOrderOver}
 use Rattle.logical_dag.specs.Scripts.{shared_trees, output_trees, all_trees, scans_of, IsWritten, IsBindable}
-use Rattle.logic_tests.specs.Worked.{counted, three_joined}
+use Rattle.logical_trees.specs.Worked.{three_joined}
+use Rattle.logic_tests.specs.Worked.{counted}
 use Rattle.logic_tests.proofs.WorkedFormed.{counted-formed, joined-formed}
 
 pub counted-written : (results : List (List ℕ)) → IsWritten results counted

@@ -10,7 +10,8 @@ use Rattle.scope_expr.specs.declared.expr.Expr.TheBlock.{shape-the_row-Expr-0, h
 use Rattle.logical_trees.specs.declared.agg.Agg.{Agg}
 use Rattle.logical_trees.specs.Formed.{IsFormed, IsGroup, IsJoin, IsArgumentOver}
 use Rattle.logical_trees.specs.Tree.{columns_of}
-use Rattle.logic_tests.specs.Worked.{linked, counting, counted, two_joined, three_joined}
+use Rattle.logical_trees.specs.Worked.{counting, two_joined, three_joined}
+use Rattle.logic_tests.specs.Worked.{linked, counted}
 
 pub linked-formed : (results : List (List ℕ)) → IsFormed results linked
 unfolding columns_where shape-the_row-Expr-0 hidden-the_row-Expr-0 hidden

@@ -1,7 +1,7 @@
 // Parts of expressions.
 ghost use Rattle.std.specs.Prelude.{◌≡◌, [], ◌∷◌, map, IfOk};
 ghost use Rattle.logical_trees.specs.Tree.{leaf, one, two, tree_of};
-ghost use Rattle.logic_tests.specs.Worked as spec;
+ghost use Rattle.logical_trees.specs.Worked as worked;
 
 use arrayvec::ArrayVec;
 use col_sets::{ColId, ColSet};
@@ -75,7 +75,7 @@ fn with_scan(
 
 /// The pairs of rows that agree in the columns `a` on the left and `b` on the right.
 pub fn on_pair(a: ColId, b: ColId) -> LogicOp
-    ensures { result ≡ spec.on_pair a b }
+    ensures { result ≡ worked.on_pair a b }
 {
     let mut on = ArrayVec::new();
     on.push((a, b));

@@ -2,6 +2,7 @@
 ghost use Rattle.std.specs.Prelude.{◌≡◌, [], ◌∷◌, IfOk};
 ghost use Rattle.logical_trees.specs.Tree.{tree_of};
 ghost use Rattle.logic_tests.specs.Worked as spec;
+ghost use Rattle.logical_trees.specs.Worked as worked;
 
 use crate::making::{beside_scan, column, number, on_pair, over, pair, scan};
 use col_sets::ColSet;
@@ -62,7 +63,7 @@ pub fn linked(alloc: Global) -> Result<Logical, AllocError>
 
 // COUNT(*) as column 4, by column 1.
 fn counting(alloc: Global) -> Result<GroupArgs, AllocError>
-    ensures { IfOk result (λ args. args ≡ spec.counting) }
+    ensures { IfOk result (λ args. args ≡ worked.counting) }
 {
     let mut aggs = Items::new(alloc);
     aggs.push(Agg {
@@ -87,7 +88,7 @@ pub fn counted(alloc: Global) -> Result<Logical, AllocError>
 /// Rows of column 0 with those of columns 1 and 2 that agree in 0 and 1, and these with rows of column 3 that agree in 1
 /// and 3.
 pub fn three_joined(alloc: Global) -> Result<Logical, AllocError>
-    ensures { IfOk result (λ t. tree_of t ≡ spec.three_joined) }
+    ensures { IfOk result (λ t. tree_of t ≡ worked.three_joined) }
 {
     let first = scan(alloc, 0, ColSet::empty().with(0));
     let second = ColSet::empty().with(1).with(2);

@@ -19,3 +19,4 @@ pub mod Rows
 pub mod ShapeLemmas
 pub mod SplitLemmas
 pub mod Tree
+pub mod Worked

@@ -2,7 +2,7 @@
 use Rattle.std.specs.Prelude.{◌≡◌, []}
 use Rattle.logical_trees.specs.declared.logic_op.LogicOp.TheVariants.{Group, Partial}
 use Rattle.logical_trees.specs.Tree.{one}
-use Rattle.rules_shapes.specs.Worked.{counting, two_joined, three_joined}
+use Rattle.logical_trees.specs.Worked.{counting, two_joined, three_joined}
 use Rattle.rules_sizes.specs.Sizes.{Sizes, size_of}
 
 -- each stream has a million rows, and each column a hundred values

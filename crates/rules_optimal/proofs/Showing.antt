@@ -12,7 +12,7 @@ use Rattle.logical_dag.specs.Facts.{AreFactsOf}
 use Rattle.logical_trees.specs.Blocks.{IsJoinOf}
 use Rattle.logical_trees.specs.Blocks as joins
 use Rattle.logical_dag.specs.Scripts.{top_of}
-use Rattle.rules_shapes.specs.Worked.{two_joined}
+use Rattle.logical_trees.specs.Worked.{two_joined}
 use Rattle.list_lemmas.specs.Members.{in_list, list_in}
 use Rattle.rules_places.specs.Space.{is_block}
 use Rattle.rules_shapes.specs.Shapes.{top_number, numbered_leaves}

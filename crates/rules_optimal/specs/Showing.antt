@@ -6,7 +6,7 @@ use Rattle.logical_trees.specs.declared.logic_op.LogicOp.TheVariants.{Scan}
 use Rattle.logical_trees.specs.Tree.{Expression, leaf}
 use Rattle.logical_dag.specs.Facts.{AreFactsOf}
 use Rattle.logical_trees.specs.Blocks.{IsJoinOf}
-use Rattle.rules_shapes.specs.Worked.{two_joined}
+use Rattle.logical_trees.specs.Worked.{two_joined}
 use Rattle.rules_optimal.specs.Tables.{PlaceTable}
 use Rattle.rules_optimal.specs.Places.{IsTableOf}
 use Rattle.rules_space.specs.declared.kind.Kind.{Kind}

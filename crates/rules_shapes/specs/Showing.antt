@@ -1,6 +1,6 @@
 -- An example: a join of two streams, and its script.
 use Rattle.std.specs.Prelude.{false, [], ◌∷◌}
-use Rattle.rules_shapes.specs.Worked.{two_joined}
+use Rattle.logical_trees.specs.Worked.{two_joined}
 use Rattle.rules_shapes.specs.Shapes.{IsScriptOf, IsJustScriptOf}
 use Rattle.rules_space.specs.Place.{Script}
 

@@ -4,7 +4,7 @@ use Rattle.col_sets.specs.Sets.{columns_where, with_column}
 use Rattle.logical_trees.specs.declared.logic_op.LogicOp.{LogicOp}
 use Rattle.logical_trees.specs.declared.logic_op.LogicOp.TheVariants.{Scan}
 use Rattle.logical_trees.specs.Tree.{Expression, leaf, two, tree_of}
-use Rattle.logic_tests.specs.Worked.{on_pair, three_joined}
+use Rattle.logical_trees.specs.Worked.{on_pair, three_joined}
 use Rattle.logic_tests.proofs.trees.three_joined.Goals as goal
 
 -- an operator over an expression and a scan, each being another

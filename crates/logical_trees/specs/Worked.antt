@@ -1,4 +1,4 @@
--- The expressions of the examples.
+-- The expressions of examples and of tests.
 use Rattle.std.specs.Prelude.{ℕ, [], ◌∷◌, None}
 use Rattle.script_trees.specs.declared.agg.AggKind.TheVariants.{Count}
 use Rattle.logical_trees.specs.declared.args.GroupArgs.{GroupArgs}
