@@ -3,25 +3,16 @@ use crate::making::set_of;
 use crate::scripts::{Script, dag_of};
 use col_sets::{ColId, ColSet};
 use fd_closure::{Facts, closure};
-use logical_dag::{Place, PlacePart, facts_at};
+use logical_dag::{DagFacts, Place, PlacePart, facts_at};
 use std::alloc::{AllocError, Global};
 use std::process::Abort;
 use std::test::Fail;
 
-// What is known of the part of a node of the script's only tree.
-fn facts_in(
-    alloc: Global,
-    script: Script,
-    node: u32,
-    part: PlacePart,
-) -> Result<Facts, AllocError> {
-    let place = Place {
-        tree: 0,
-        node,
-        part,
-    };
+// What is known of a place of the script, as it is worked out, and as it is looked up.
+fn facts_in(alloc: Global, script: Script, place: Place) -> Result<[Facts; 2], AllocError> {
     let dag = dag_of(alloc, script)?;
-    Ok(facts_at(&dag, &place))
+    let known = DagFacts::new(alloc, &dag)?;
+    Ok([facts_at(&dag, &place), known.at(&place)])
 }
 
 // What is known of it: its columns, the constants, and the columns that those of `from` force.
@@ -46,24 +37,26 @@ fn check(
     rt: &impl Abort,
     alloc: Global,
     script: Script,
-    node: u32,
-    part: PlacePart,
+    place: Place,
     wanted: Known,
 ) -> Result<(), AllocError> {
-    let facts = facts_in(alloc, script, node, part)?;
-    assert_eq!(rt; facts.columns, wanted.columns);
-    assert_eq!(rt; facts.constants, wanted.constants);
-    assert_eq!(rt; closure(&facts, wanted.from), wanted.forced);
+    for facts in facts_in(alloc, script, place)? {
+        assert_eq!(rt; facts.columns, wanted.columns);
+        assert_eq!(rt; facts.constants, wanted.constants);
+        assert_eq!(rt; closure(&facts, wanted.from), wanted.forced);
+    }
     Ok(())
 }
 
 // Node 1 is the Filter, whose columns 0 to 2 are linked and whose column 3 is constant: a signed number is no constant.
 // Above the Group, node 2, the columns that are no key are gone, and the key determines the aggregate; its first step knows
-// of its key alone. There is no node 3.
+// of its key alone. A Filter has no first step; there is no node 3 and no tree 1.
 #[test]
 fn parts_of_a_group_have_their_facts(rt: HostRuntime) -> Result<(), Fail> {
-    let table: [(u32, PlacePart, &[ColId], &[ColId], &[ColId], &[ColId]); 7] = [
+    let table: [(u32, u32, PlacePart, &[ColId], &[ColId], &[ColId], &[ColId]); 10] = [
+        (0, 0, PlacePart::Whole, &[0, 1, 2, 3], &[], &[1], &[1]),
         (
+            0,
             1,
             PlacePart::Whole,
             &[0, 1, 2, 3],
@@ -72,6 +65,7 @@ fn parts_of_a_group_have_their_facts(rt: HostRuntime) -> Result<(), Fail> {
             &[0, 1, 2, 3],
         ),
         (
+            0,
             1,
             PlacePart::Whole,
             &[0, 1, 2, 3],
@@ -79,15 +73,18 @@ fn parts_of_a_group_have_their_facts(rt: HostRuntime) -> Result<(), Fail> {
             &[2],
             &[0, 1, 2, 3],
         ),
-        (1, PlacePart::Whole, &[0, 1, 2, 3], &[3], &[], &[3]),
-        (2, PlacePart::Whole, &[1, 4], &[], &[1], &[1, 4]),
-        (2, PlacePart::Whole, &[1, 4], &[], &[4], &[4]),
-        (2, PlacePart::Lower, &[1, 4], &[], &[1], &[1]),
-        (3, PlacePart::Whole, &[], &[], &[1], &[1]),
+        (0, 1, PlacePart::Whole, &[0, 1, 2, 3], &[3], &[], &[3]),
+        (0, 1, PlacePart::Lower, &[], &[], &[1], &[1]),
+        (0, 2, PlacePart::Whole, &[1, 4], &[], &[1], &[1, 4]),
+        (0, 2, PlacePart::Whole, &[1, 4], &[], &[4], &[4]),
+        (0, 2, PlacePart::Lower, &[1, 4], &[], &[1], &[1]),
+        (0, 3, PlacePart::Whole, &[], &[], &[1], &[1]),
+        (1, 0, PlacePart::Whole, &[], &[], &[1], &[1]),
     ];
-    for (node, part, columns, constants, from, forced) in table {
+    for (tree, node, part, columns, constants, from, forced) in table {
+        let place = Place { tree, node, part };
         let wanted = known_of(columns, constants, from, forced);
-        check(&rt, rt.alloc(), Script::Counts, node, part, wanted)?;
+        check(&rt, rt.alloc(), Script::Counts, place, wanted)?;
     }
     Ok(())
 }
@@ -106,9 +103,13 @@ fn parts_of_a_block_have_their_facts(rt: HostRuntime) -> Result<(), Fail> {
         (2, 0b011, &[0, 1, 2], &[0], &[0, 1]),
     ];
     for (node, leaves, columns, from, forced) in table {
-        let part = PlacePart::Leaves(leaves);
+        let place = Place {
+            tree: 0,
+            node,
+            part: PlacePart::Leaves(leaves),
+        };
         let wanted = known_of(columns, &[], from, forced);
-        check(&rt, rt.alloc(), Script::Joins, node, part, wanted)?;
+        check(&rt, rt.alloc(), Script::Joins, place, wanted)?;
     }
     Ok(())
 }

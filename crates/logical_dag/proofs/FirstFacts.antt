@@ -2,21 +2,23 @@
 use Rattle.std.proofs.Common.{◌≡◌, ◌≢◌, ℕ, zero, suc, ◌+◌, ◌<◌, ◌≤◌, Bool, true, false, List, [], ◌∷◌, map, take, set, get_or, length, nat_eq, refl, sym, ap, ap₂, ◌∙◌, subst, arith, Some, slice_get}
 use Rattle.std.specs.Prelude.{IsSomeAnd, IfSome, option_map}
 use Rattle.std.proofs.lemmas.Bool.Decides.{nat_tests}
-use Rattle.std.proofs.lemmas.List.{take-set-le, take-take, length-take-le}
+use Rattle.std.proofs.lemmas.List.{length-map, take-set-le, take-take, length-take-le}
 use Rattle.std.proofs.lemmas.Option.{slice_get_within, slice_get-map}
 use Rattle.col_sets.specs.Tests.{from_test}
 use Rattle.fd_closure.specs.declared.facts.Facts.{Facts}
 use Rattle.logical_dag.specs.declared.dag.Dag.{Dag}
+use Rattle.logical_dag.specs.declared.dag.Output.{Output}
 use Rattle.logical_trees.specs.declared.logical.Logical.{Logical}
 use Rattle.logical_trees.specs.Tree.{Expression, tree_of, columns_of}
 use Rattle.logical_trees.specs.Formed.{IsFormed}
 use Rattle.logical_dag.specs.Facts.{AreFactsOf}
 use Rattle.logical_dag.specs.Laws.{lent_columns}
-use Rattle.logical_dag.specs.Scripts.{shared_trees, IsWritten, IsBindable}
+use Rattle.logical_dag.specs.Scripts.{shared_trees, output_trees, all_trees, IsWritten, IsBindable}
 use Rattle.logical_dag.specs.Places.{AreSharedFacts}
-use Rattle.logical_dag.proofs.Placed.{some_and, and_some, if_some, shared_columns}
+use Rattle.logical_dag.proofs.Placed.{some_and, and_some, if_some, shared_columns, tree_formed}
 use Rattle.list_lemmas.specs.Reading.{read_some}
-use Rattle.logical_dag.proofs.SharedFacts.{to_if}
+use Rattle.list_lemmas.specs.Reading.{get_front, get_past}
+use Rattle.logical_dag.proofs.SharedFacts.{to_if, shared_lent}
 
 -- the first n of these are the facts of the first n trees, each by those of the earlier ones
 abbrev pub AreFirstFacts : List Expression → ℕ → List Facts → Type 0
@@ -107,3 +109,17 @@ first_all dag n known e l h = record { each_one = length-take-le n known l ∙ e
 -- a tree of the list stands at its place
 pub tree_got : (trees : List Logical) (i : ℕ) (t : Logical) → i < length trees → t ≡ get_or trees i t → slice_get (map tree_of trees) i ≡ Some (tree_of t)
 tree_got trees i t l e = slice_get-map tree_of trees i ∙ ap (option_map tree_of) (read_some trees i t l e)
+
+-- and among all trees of a script, the shared ones first
+pub shared_there : (dag : Dag) (items : List Logical) (i : ℕ) (t : Logical) → items ≡ dag.shared → i < length items → t ≡ get_or items i t → slice_get (all_trees dag) i ≡ Some (tree_of t)
+shared_there dag items i t same l e = get_front (shared_trees dag) (output_trees dag) i (tree_of t) (subst (λ (trees : List Logical). slice_get (map tree_of trees) i ≡ Some (tree_of t)) same (tree_got items i t l e))
+
+pub output_there : (dag : Dag) (items : List Output) (i : ℕ) (o : Output) → items ≡ dag.outputs → i < length items → o ≡ get_or items i o → slice_get (all_trees dag) (length dag.shared + i) ≡ Some (tree_of o.tree)
+output_there dag items i o same l e =
+    get_past (shared_trees dag) (output_trees dag) (length dag.shared + i) i (tree_of o.tree) (ap (λ n. n + i) (sym (length-map dag.shared tree_of)))
+    (subst (λ (outputs : List Output). slice_get (map (λ p. tree_of p.tree) outputs) i ≡ Some (tree_of o.tree)) same
+    (slice_get-map (λ (p : Output). tree_of p.tree) items i ∙ ap (option_map (λ (p : Output). tree_of p.tree)) (read_some items i o l e)))
+
+-- a tree of a script is formed over the columns of the shared results' facts
+pub lent_formed : (dag : Dag) → IsBindable dag → (shared : List Facts) → AreSharedFacts dag shared → (i : ℕ) (t : Expression) → slice_get (all_trees dag) i ≡ Some t → IsFormed (lent_columns shared) t
+lent_formed dag bound shared known i t e = subst (λ (results : List (List ℕ)). IsFormed results t) (shared_lent dag bound shared known) (tree_formed dag bound i t e)

@@ -11,6 +11,7 @@ pub mod ItemFacts
 pub mod JoinFacts
 pub mod KnownColumns
 pub mod KnownHold
+pub mod KnownNodes
 pub mod KnownSteps
 pub mod KnownTables
 pub mod LeafFacts

@@ -124,7 +124,7 @@ place_formed dag bound place t h =
 
 module _ (dag : Dag) (place : Place) (tree : Expression) (here : slice_get (all_trees dag) place.tree ≡ Some tree) where
   -- an expression at the place is a part of a node of the tree
-  at_tree : (t : Expression) → IsAt dag place t → IsSomeAnd (slice_get (nodes tree) place.node) (λ node. IsPart place.part node t)
+  pub at_tree : (t : Expression) → IsAt dag place t → IsSomeAnd (slice_get (nodes tree) place.node) (λ node. IsPart place.part node t)
   at_tree t h = subst (λ o. IsSomeAnd o (λ u. IsSomeAnd (slice_get (nodes u) place.node) (λ node. IsPart place.part node t))) here h
 
   -- the node's number is that of a node

@@ -4,6 +4,7 @@ pub mod Facts
 pub mod Found
 pub mod Gathered
 pub mod Known
+pub mod KnownNodes
 pub mod Laws
 pub mod Places
 pub mod Scripts

@@ -6,9 +6,11 @@ ghost use Rattle.logical_dag.specs.Laws.{lent_columns};
 ghost use Rattle.logical_trees.specs.Blocks.{block_leaves, block_pairs, chosen};
 ghost use Rattle.logical_dag.specs.BlockFacts.{AreFactsOfAll};
 ghost use Rattle.logical_dag.specs.Gathered.{bits_after, IsBlank, IsOverColumns, IsApartFrom, AreAdded};
+ghost use Rattle.logical_dag.specs.KnownNodes.{MayHaveFacts};
 
 use crate::block_pairs::with_block_pairs;
-use crate::known::{facts_of, joined};
+use crate::known::joined;
+use crate::known_nodes::{NodeFacts, facts_by, left_of};
 use col_sets::ColSet;
 use fd_closure::Facts;
 use logical_trees::{LogicOp, Logical};
@@ -21,26 +23,41 @@ struct Gathered {
 }
 
 // With the facts of a leaf.
-fn with_leaf(tree: &Logical, shared: &[Facts], into: Facts) -> Facts
+fn with_leaf(
+    tree: &Logical,
+    number: usize,
+    known: &[NodeFacts],
+    shared: &[Facts],
+    into: Facts,
+) -> Facts
     requires formed { IsFormed (lent_columns shared.now) (tree_of tree.now) }
+    requires known { MayHaveFacts shared.now known.now (tree_of tree.now) number }
     requires over { IsOverColumns into }
     requires apart { IsApartFrom into.columns (tree_of tree.now) }
     ensures { AreAdded shared.now into (tree_of tree.now ∷ []) result }
 {
-    let leaf = facts_of(tree, shared);
+    let leaf = facts_by(tree, number, known, shared);
     joined(&[], into, &leaf)
 }
 
 // With the facts of a leaf, if the lowest bit of the mask is set.
-fn with_chosen(tree: &Logical, mask: u8, shared: &[Facts], into: Facts) -> Gathered
+fn with_chosen(
+    tree: &Logical,
+    number: usize,
+    mask: u8,
+    known: &[NodeFacts],
+    shared: &[Facts],
+    into: Facts,
+) -> Gathered
     requires formed { IsFormed (lent_columns shared.now) (tree_of tree.now) }
+    requires known { MayHaveFacts shared.now known.now (tree_of tree.now) number }
     requires over { IsOverColumns into }
     requires apart { IsApartFrom into.columns (tree_of tree.now) }
     ensures mask { result.mask ≡ mask / 2 }
     ensures facts { AreAdded shared.now into (chosen mask (tree_of tree.now ∷ [])) result.facts }
 {
     let facts = if mask % 2 == 1 {
-        with_leaf(tree, shared, into)
+        with_leaf(tree, number, known, shared, into)
     } else {
         into
     };
@@ -51,22 +68,32 @@ fn with_chosen(tree: &Logical, mask: u8, shared: &[Facts], into: Facts) -> Gathe
 }
 
 // With the facts of those leaves of the block whose bit of the mask is set.
-fn with_leaves(tree: &Logical, mask: u8, shared: &[Facts], into: Facts) -> Gathered
+fn with_leaves(
+    tree: &Logical,
+    number: usize,
+    mask: u8,
+    known: &[NodeFacts],
+    shared: &[Facts],
+    into: Facts,
+) -> Gathered
     requires formed { IsFormed (lent_columns shared.now) (tree_of tree.now) }
+    requires known { MayHaveFacts shared.now known.now (tree_of tree.now) number }
     requires over { IsOverColumns into }
     requires apart { IsApartFrom into.columns (tree_of tree.now) }
     ensures mask { result.mask ≡ bits_after (block_leaves (tree_of tree.now)) mask }
     ensures facts { AreAdded shared.now into (chosen mask (block_leaves (tree_of tree.now))) result.facts }
 {
     let LogicOp::Join { .. } = &tree.op else {
-        return with_chosen(tree, mask, shared, into);
+        return with_chosen(tree, number, mask, known, shared, into);
     };
     match tree.kids.as_slice() {
         [left, right, ..] => {
-            let of_left = with_leaves(left, mask, shared, into);
-            with_leaves(right, of_left.mask, shared, of_left.facts)
+            let first = left_of(known, number);
+            let of_left = with_leaves(left, first, mask, known, shared, into);
+            let last = number.saturating_sub(1);
+            with_leaves(right, last, of_left.mask, known, shared, of_left.facts)
         }
-        _ => with_chosen(tree, mask, shared, into),
+        _ => with_chosen(tree, number, mask, known, shared, into),
     }
 }
 
@@ -78,11 +105,18 @@ pub fn nothing_known() -> Facts
 }
 
 /// The facts of each join of the leaves of the block whose bit of the mask is set, bit 0 being that of the first from
-/// the left.
-pub fn block_facts(tree: &Logical, mask: u8, shared: &[Facts]) -> Facts
-    requires { IsFormed (lent_columns shared.now) (tree_of tree.now) }
+/// the left. Where the facts of the nodes of the tree are known, those of the leaves are looked up.
+pub fn block_facts(
+    tree: &Logical,
+    number: usize,
+    mask: u8,
+    known: &[NodeFacts],
+    shared: &[Facts],
+) -> Facts
+    requires formed { IsFormed (lent_columns shared.now) (tree_of tree.now) }
+    requires known { MayHaveFacts shared.now known.now (tree_of tree.now) number }
     ensures { AreFactsOfAll shared.now (block_pairs (tree_of tree.now)) (chosen mask (block_leaves (tree_of tree.now))) result }
 {
-    let gathered = with_leaves(tree, mask, shared, nothing_known());
+    let gathered = with_leaves(tree, number, mask, known, shared, nothing_known());
     with_block_pairs(tree, gathered.facts)
 }

@@ -98,9 +98,9 @@ pub(crate) fn joined(on: &[(ColId, ColId)], left: Facts, right: &Facts) -> Facts
     with_pairs(on, with_equalities(right, &names, depends))
 }
 
-// Puts the facts of a node without children.
+/// Puts the facts of a node without children.
 #[inline(never)]
-fn leaf_facts(op: &LogicOp, shared: &[Facts], facts: &mut Facts)
+pub(crate) fn leaf_facts(op: &LogicOp, shared: &[Facts], facts: &mut Facts)
     requires { IsFormed (lent_columns shared.now) (leaf op.now) }
     ensures value { AreFactsOf shared.now (leaf op.now) facts.new }
     ensures set { IsLentSet shared.now (leaf op.now) }
@@ -118,9 +118,9 @@ fn leaf_facts(op: &LogicOp, shared: &[Facts], facts: &mut Facts)
     }
 }
 
-// Makes of the facts below a node those of the node.
+/// Makes of the facts below a node those of the node.
 #[inline(never)]
-fn facts_above(op: &LogicOp, facts: &mut Facts)
+pub(crate) fn facts_above(op: &LogicOp, facts: &mut Facts)
     requires formed { IsOneFormed facts.old.columns op.now }
     requires own { IsOwn facts.old }
     ensures { AreFactsAbove op.now facts.old facts.new }
@@ -137,9 +137,9 @@ fn facts_above(op: &LogicOp, facts: &mut Facts)
     }
 }
 
-// Makes of the facts on the left of a node, with those on the right, those of the node.
+/// Makes of the facts on the left of a node, with those on the right, those of the node.
 #[inline(never)]
-fn facts_over(op: &LogicOp, facts: &mut Facts, right: &Facts)
+pub(crate) fn facts_over(op: &LogicOp, facts: &mut Facts, right: &Facts)
     requires formed { IsTwoFormed facts.old.columns right.now.columns op.now }
     requires own { IsOwn facts.old }
     requires apart { IsJoinApart op.now facts.old right.now }

@@ -7,14 +7,17 @@ mod block_facts;
 mod block_pairs;
 mod carried;
 mod dag;
+mod dag_facts;
 mod finding;
 mod known;
 mod known_at;
+mod known_nodes;
 mod naming;
 mod place;
 mod stated;
 
 pub use dag::{Dag, Output, ScanDecl};
+pub use dag_facts::DagFacts;
 pub use known::{facts_law, facts_of};
 pub use known_at::facts_at;
 pub use logical_trees::{

@@ -1,12 +1,14 @@
 -- A node that is no Join is its only leaf, and a Join has the leaves of its sides, the left ones first.
-use Rattle.std.proofs.Common.{subst, rules}
+use Rattle.std.proofs.Common.{◌≡◌, ℕ, ◌-◌, subst, sym, rules}
 use Rattle.logical_trees.specs.declared.logical.Logical.TheViews.{the_lemmas}
 use Rattle.logical_trees.specs.Tree.{tree_of}
 use Rattle.logical_trees.specs.Formed.{IsFormed}
 use Rattle.logical_dag.specs.Laws.{lent_columns}
 use Rattle.logical_dag.specs.Gathered.{IsApartFrom}
+use Rattle.logical_dag.specs.KnownNodes.{MayHaveFacts}
 use Rattle.logical_trees.specs.BlockShapeLemmas.{other_kind, few_kids, tree_join}
 use Rattle.logical_dag.proofs.Gathering.{leaf_mask, leaf_added, left_apart, right_apart, right_over, join_added, join_mask}
+use Rattle.logical_dag.proofs.KnownNodes.{left_may, right_may}
 use Rattle.logical_dag.proofs.block_facts.+with_leaves.Goals as goal
 
 pub returns-in_default : goal.returns-in_default
@@ -39,7 +41,8 @@ with_leaves-of_left-requires t c =
     let join = tree_join c.args.tree.now c.as_slice.result.now c.left-item.result c.right-item.result on c.as_slice.ensures c.in-len2-up.len_at_least c.left-item.is c.right-item.is c.in-Join.is in
     let formed = subst (λ e. IsFormed (lent_columns shared) e) join c.requires.formed in
     let apart = subst (λ e. IsApartFrom f.columns e) join c.requires.apart in
-    (search (rules, the_lemmas), (formed.0, (c.requires.over, left_apart shared (lent_columns shared) on left right formed c.args.mask f c.requires.over apart)))
+    let known = subst (λ e. MayHaveFacts shared c.args.known.now e c.args.number) join c.requires.known in
+    (search (rules, the_lemmas), (formed.0, (left_may shared c.args.known.now _ left right c.args.number c.left_of-first.result c.left_of-first.ensures known, (c.requires.over, left_apart shared (lent_columns shared) on left right formed c.args.mask f c.requires.over apart))))
 
 pub with_leaves-requires : goal.with_leaves-requires
 with_leaves-requires t c =
@@ -52,13 +55,18 @@ with_leaves-requires t c =
     let added = c.with_leaves-of_left.ensures.facts in
     let join = tree_join c.args.tree.now c.as_slice.result.now c.left-item.result c.right-item.result on c.as_slice.ensures c.in-len2-up.len_at_least c.left-item.is c.right-item.is c.in-Join.is in
     let formed = subst (λ e. IsFormed (lent_columns shared) e) join c.requires.formed in
-    let apart = subst (λ e. IsApartFrom f.columns e) join c.requires.apart in (
+    let apart = subst (λ e. IsApartFrom f.columns e) join c.requires.apart in
+    let known = subst (λ e. MayHaveFacts shared c.args.known.now e c.args.number) join c.requires.known in
+    let before : c.saturating_sub-last.result ≡ c.args.number - 1 = c.saturating_sub-last.ensures in (
       search (rules, the_lemmas),
       (
         formed.1,
         (
-          right_over shared (lent_columns shared) on left right formed c.args.mask f c.requires.over apart g added,
-          right_apart shared (lent_columns shared) on left right formed c.args.mask f c.requires.over apart g added,
+          subst (λ (n : ℕ). MayHaveFacts shared c.args.known.now right n) (sym before) (right_may shared c.args.known.now _ left right c.args.number known),
+          (
+            right_over shared (lent_columns shared) on left right formed c.args.mask f c.requires.over apart g added,
+            right_apart shared (lent_columns shared) on left right formed c.args.mask f c.requires.over apart g added,
+          ),
         ),
       ),
     )

@@ -13,7 +13,7 @@ pub with_block_pairs-requires-clause-set : goal.with_block_pairs-requires-clause
 with_block_pairs-requires-clause-set c =
     let shared = c.args.shared.now in
     let tree = tree_of c.args.tree.now in
-    let over = added_over shared (lent_columns shared) c.nothing_known.result c.with_leaves-gathered.result.facts (chosen c.args.mask (block_leaves tree)) (chosen_formed (lent_columns shared) c.args.mask tree c.requires)
+    let over = added_over shared (lent_columns shared) c.nothing_known.result c.with_leaves-gathered.result.facts (chosen c.args.mask (block_leaves tree)) (chosen_formed (lent_columns shared) c.args.mask tree c.requires.formed)
     (blank_over c.nothing_known.result c.nothing_known.ensures) c.with_leaves-gathered.ensures.facts in
     over.set
 

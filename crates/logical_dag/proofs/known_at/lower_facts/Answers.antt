@@ -17,15 +17,15 @@ returns-in-Group c t part =
     let kid = tree_of c.kid-item.result in
     let op = c.in-Group.is in
     let shape = tree_one c.args.node.now c.as_slice.result.now c.kid-item.result c.as_slice.ensures c.in-len1.len_at_least c.in-len1.len_below c.kid-item.is ∙ ap (λ o. one o kid) op in
-    let formed = subst (λ e. IsFormed (lent_columns shared) e) shape c.requires in
-    let made = partial_facts shared kid c.facts_of.result (lent_columns shared) formed.0 c.facts_of.ensures.value c.in-Group.args c.keyed.result formed.1.0 c.keyed.ensures in
+    let formed = subst (λ e. IsFormed (lent_columns shared) e) shape c.requires.formed in
+    let made = partial_facts shared kid c.facts_by.result (lent_columns shared) formed.0 c.facts_by.ensures c.in-Group.args c.keyed.result formed.1.0 c.keyed.ensures in
     group_lower shared c.in-Group.args kid t c.keyed.result made (subst (λ e. IsPart Lower e t) shape part)
 
 pub returns-in-Top : goal.returns-in-Top
 returns-in-Top c t part =
     let kid = tree_of c.kid-item.result in
     let shape = tree_one c.args.node.now c.as_slice.result.now c.kid-item.result c.as_slice.ensures c.in-len1.len_at_least c.in-len1.len_below c.kid-item.is ∙ ap (λ o. one o kid) c.in-Top.is in
-    top_lower c.args.shared.now c.in-Top.field-0 kid t c.facts_of-in-Top.result c.facts_of-in-Top.ensures.value (subst (λ e. IsPart Lower e t) shape part)
+    top_lower c.args.shared.now c.in-Top.field-0 kid t c.facts_by-in-Top.result c.facts_by-in-Top.ensures (subst (λ e. IsPart Lower e t) shape part)
 
 pub returns-in_default-op : goal.returns-in_default-op
 returns-in_default-op c t part =
