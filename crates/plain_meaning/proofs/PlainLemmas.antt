@@ -23,6 +23,10 @@ use Rattle.logical_trees.specs.Meaning.{Sources, GivesTwo, StandsFor}
 use Rattle.list_lemmas.specs.Bags.{same_permuted}
 use Rattle.plain_meaning.specs.Steps.{partial_row}
 
+-- what equals a list is one bag with it, as clauses have it: the list on the right
+pub same_bag : {X : Type 0} (xs ys : List X) → ys ≡ xs → IsPermutation xs ys
+same_bag xs ys e = same_permuted xs ys (sym e)
+
 -- a part of one row has its partial row
 single_part : (args : GroupArgs) (cols : List ℕ) (r : Row) → partial_rows args cols (r ∷ []) ≡ partial_row args cols r ∷ []
 single_part args cols r =

@@ -3,6 +3,7 @@ ghost use Rattle.std.specs.Prelude.{◌≡◌, ◌++◌, ◌<◌, length, map, f
 ghost use Rattle.user_ops.specs.Told.{processes_at};
 ghost use Rattle.structural_props.specs.Rows.{key_of};
 ghost use Rattle.logical_trees.specs.Rows.{with_key};
+ghost use Rattle.list_lemmas.specs.Distinct.{distinct};
 ghost use Rattle.logical_trees.specs.Rows as spec;
 ghost use Rattle.plain_meaning.specs.Plain.{group_at, reduced_by, combined_by};
 
@@ -273,7 +274,7 @@ fn keys_of_both(
 ) -> Result<Vec<Row>, AllocError>
     ensures { IfOk result (λ keys.
         keys.items
-        ≡ spec.distinct (map (key_of left.now.cols mine.now) left.now.rows.now ++ map (key_of right.now.cols other.now) right.now.rows.now)) }
+        ≡ distinct (map (key_of left.now.cols mine.now) left.now.rows.now ++ map (key_of right.now.cols other.now) right.now.rows.now)) }
 {
     let mut keys = keys_of(alloc, left.cols, mine, left.rows)?;
     let mut more = keys_of(alloc, right.cols, other, right.rows)?;
