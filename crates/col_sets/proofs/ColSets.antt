@@ -10,6 +10,7 @@ use Rattle.std.proofs.lemmas.Nat.{ones_cat, ones-le, mod-pow-add, shr-shr, pow_b
 use Rattle.std.specs.Ordering.{eq_by_cmp, nat_cmp, is_eq}
 use Rattle.std.specs.Cmp.Lexicographic.{slice_cmp}
 use Rattle.std.proofs.lemmas.Map.Views.{tells_apart}
+use Rattle.std.proofs.lemmas.List.FromFn.{length-range_with_len}
 use Rattle.std.proofs.lemmas.List.Elements.{filter_agree}
 use Rattle.col_sets.specs.Tests.{same_tests, from_test, to_test}
 use Rattle.col_sets.specs.Columns.{filter-filter, columns_where-set}
@@ -178,3 +179,25 @@ eq-members a b l m = same_tests _ _ forth (λ h. to_test a b (sym (bits_of-membe
 pub members-set : (b : ℕ) → IsColumnSet (members b)
 unfolding members
 members-set b = columns_where-set (λ c. nat_eq (bit_at b c) 1)
+
+-- what the test of a column says
+pub column_is : (c : ℕ) → nat_lt c 128 ≡ true → c < 128
+column_is c h = grind (arith, nat_tests)
+
+pub column_not : (c : ℕ) → nat_lt c 128 ≡ false → 128 ≤ c
+column_not c h = grind (arith, nat_tests)
+
+pub column_test : (c : ℕ) → c < 128 → nat_lt c 128 ≡ true
+column_test c h = grind (arith, nat_tests)
+
+-- no more elements pass than there are
+length-filter : {X : Type 0} (p : X → Bool) (xs : List X) → length (filter p xs) ≤ length xs
+length-filter p [] = omega arith
+length-filter p (x ∷ xs) = go (p x) (length-filter p xs)
+  where
+    go : (b : Bool) → length (filter p xs) ≤ length xs → length (cond b (x ∷ filter p xs) (filter p xs)) ≤ length (x ∷ xs)
+    go true h = omega arith
+    go false h = omega arith
+
+pub length-filter_range : (p : ℕ → Bool) (n : ℕ) → length (filter p (range_with_len 0 n)) ≤ n
+length-filter_range p n = omega (arith, length-filter p (range_with_len 0 n), length-range_with_len 0 n)

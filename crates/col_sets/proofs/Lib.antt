@@ -1,1 +1,2 @@
 pub mod ColSets
+pub mod KeyLemmas

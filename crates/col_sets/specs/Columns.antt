@@ -1,6 +1,7 @@
 -- What is in a set of columns, and at which place.
-use Rattle.std.proofs.Common.{◌≡◌, ℕ, zero, suc, ◌+◌, ◌<◌, ◌≤◌, Bool, true, false, cond, ◌&&◌, ◌||◌, List, [], ◌∷◌, refl, sym, ap, ◌∙◌, subst, arith, nat_eq, nat_lt, ◌⊎◌, inl, inr, slice_index, slice_get, Some}
-use Rattle.std.proofs.lemmas.List.FromFn.{get_or-range_with_len, length-range_with_len}
+use Rattle.std.proofs.Common.{◌≡◌, ℕ, zero, suc, ◌+◌, ◌<◌, ◌≤◌, Bool, true, false, cond, ◌&&◌, ◌||◌, List, [], ◌∷◌, ◌++◌, refl, sym, ap, ◌∙◌, subst, arith, nat_eq, nat_lt, ◌⊎◌, inl, inr, slice_index, slice_get, Some}
+use Rattle.std.proofs.lemmas.List.{map-id, append-nil}
+use Rattle.std.proofs.lemmas.List.FromFn.{get_or-range_with_len, length-range_with_len, filter_of_map_range_with_len_more}
 use Rattle.std.specs.List.{filter, range_with_len}
 use Rattle.std.specs.List.Sorted.{IsStrictlyIncreasing}
 use Rattle.std.proofs.lemmas.Bool.Decides.{nat_tests}
@@ -226,3 +227,17 @@ columns_none = none 128 0
     none : (n a : ℕ) → filter (λ c. false) (range_with_len a n) ≡ []
     none zero a = refl
     none (suc n) a = none n (a + 1)
+
+-- one number more of a range is tested
+filter_range_more : (p : ℕ → Bool) (n : ℕ) → filter p (range_with_len 0 (n + 1)) ≡ filter p (range_with_len 0 n) ++ cond (p n) (n ∷ []) []
+filter_range_more p n =
+    let zero_n : 0 + n ≡ n = omega arith in
+    ap (filter p) (sym (map-id (range_with_len 0 (n + 1))))
+    ∙ filter_of_map_range_with_len_more p (λ i. i) 0 n n zero_n
+    ∙ ap (λ xs. filter p xs ++ cond (p n) (n ∷ []) []) (map-id (range_with_len 0 n))
+
+-- a turn of a loop that keeps the numbers that pass
+pub range_step : (p : ℕ → Bool) (n : ℕ) (kept more : List ℕ) (b : Bool) → kept ≡ filter p (range_with_len 0 n) → p n ≡ b → more ≡ cond b (kept ++ n ∷ []) kept
+    → more ≡ filter p (range_with_len 0 (n + 1))
+range_step p n kept more true is passes new = rw (filter_range_more, passes, ← is) new
+range_step p n kept more false is passes new = rw (filter_range_more, passes, append-nil, ← is) new

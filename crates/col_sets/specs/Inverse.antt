@@ -1,11 +1,11 @@
 -- A set's bits are those of its members.
-use Rattle.std.proofs.Common.{◌≡◌, ℕ, ◌^◌, ◌<◌, ◌≤◌, ◌≢◌, Bool, true, false, cond, ◌&&◌, ◌||◌, List, [], ◌∷◌, refl, sym, ap, ◌∙◌, subst, arith, nat_eq, nat_lt, max}
+use Rattle.std.proofs.Common.{◌≡◌, ℕ, ◌+◌, ◌*◌, ◌%◌, ◌/◌, ◌^◌, ◌<◌, ◌≤◌, ◌≢◌, Bool, true, false, cond, ◌&&◌, ◌||◌, List, [], ◌∷◌, refl, sym, ap, ◌∙◌, subst, arith, nat_eq, nat_lt, max}
 use Rattle.std.specs.Int.{bit_at}
 use Rattle.std.proofs.lemmas.Nat.Bits.{bit_at_or, bit_at-pow_same, bit_at-pow_other, bit_at-zero, same_from_bits, bit_at_above, bit_at-lt}
 use Rattle.std.proofs.lemmas.Bool.Decides.{nat_tests}
 use Rattle.col_sets.specs.Sets.{has}
 use Rattle.col_sets.specs.Columns.{has-columns_where}
-use Rattle.col_sets.specs.Members.{members, bits_of}
+use Rattle.col_sets.specs.Members.{members, bits_of, both_halves}
 
 -- the bit of a column of the list
 bit_of : (s : List ℕ) (c : ℕ) → bit_at (bits_of s) c ≡ cond (has s c) 1 0
@@ -39,3 +39,10 @@ bits_of-members b h = same_from_bits _ _ (λ i. bit_of (members b) i ∙ ap (λ 
     go i true e true f = let g : bit_at b i ≡ 1 = grind (arith, nat_tests) in rw (e, f) (sym g)
     go i true e false f = let l = bit_at-lt b i in let g : bit_at b i ≡ 0 = grind (arith, nat_tests) in rw (e, f) (sym g)
     go i false e q f = let l : 128 ≤ i = grind (arith, nat_tests) in rw e (sym (bit_at_above b 128 i h l))
+
+-- the halves of the bits of the members are the halves
+pub low_back : (low high : ℕ) → low < 2 ^ 64 → high < 2 ^ 64 → bits_of (members (both_halves low high)) % 2 ^ 64 ≡ low
+low_back low high l m = rw (bits_of-members (both_halves low high) (omega arith)) (omega arith)
+
+pub high_back : (low high : ℕ) → low < 2 ^ 64 → high < 2 ^ 64 → bits_of (members (both_halves low high)) / 2 ^ 64 ≡ high
+high_back low high l m = rw (bits_of-members (both_halves low high) (omega arith)) (omega arith)

@@ -4,3 +4,4 @@ pub mod Columns
 pub mod Members
 pub mod Inverse
 pub mod Keys
+pub mod Listed

@@ -16,6 +16,10 @@ within (c ∷ s) t = has t c && within s t
 unfoldable pub columns_where : (ℕ → Bool) → List ℕ
 columns_where p = filter p (range_with_len 0 128)
 
+-- the set of the columns of a list
+abbrev pub set_of : List ℕ → List ℕ
+set_of cols = columns_where (has cols)
+
 -- s with the column c
 abbrev pub with_column : List ℕ → ℕ → List ℕ
 with_column s c = columns_where (λ d. nat_eq c d || has s d)
@@ -34,4 +38,4 @@ count s = length s
 
 -- s is the ascending list of some columns below 128
 abbrev pub IsColumnSet : List ℕ → Type 0
-IsColumnSet s = columns_where (has s) ≡ s
+IsColumnSet s = set_of s ≡ s

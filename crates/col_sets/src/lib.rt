@@ -4,11 +4,13 @@
 #![tactic(auto)]
 
 mod col_set;
+mod column;
 mod dir;
 mod key_cols;
 mod key_orders;
 
-pub use col_set::{ColId, ColSet};
+pub use col_set::ColSet;
+pub use column::{ColId, MAX_COLUMNS, is_column};
 pub use dir::Dir;
 pub use key_cols::KeyCols;
 pub use key_orders::KeyOrders;

@@ -13,11 +13,7 @@ use std::alloc::{AllocError, Global};
 
 /// The set of the columns.
 pub fn set_of(cols: &[ColId]) -> ColSet {
-    let mut set = ColSet::empty();
-    for c in cols {
-        set = set.with(*c);
-    }
-    set
+    ColSet::of(cols)
 }
 
 /// The scan of that number.

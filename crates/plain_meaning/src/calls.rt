@@ -158,7 +158,8 @@ fn group_in_order(
         ≡ spec.in_order input.now.cols (spec.order_of input.now.presort.now) (with_key input.now.cols on.now k.now input.now.rows.now)) }
 {
     let group = rows_with_key(alloc, input.cols, on, k, input.rows)?;
-    rows_in_order(alloc, input.cols, order_of(input.presort), group.as_slice())
+    let order = order_of(input.presort);
+    rows_in_order(alloc, input.cols, order.as_slice(), group.as_slice())
 }
 
 /// What the combiner gives for the rows of each key on both sides, each side in the order of its presort.

@@ -8,11 +8,5 @@ use std::alloc::{AllocError, Global};
 pub(crate) fn columns_in(alloc: Global, set: ColSet) -> Result<Vec<ColId>, AllocError>
     ensures { IfOk result (λ columns. columns.items ≡ set) }
 {
-    let mut columns = Vec::with_capacity(alloc, set.count() as usize)?;
-    for c in 0..128 {
-        if set.has(c) {
-            columns.push(c)?;
-        }
-    }
-    Ok(columns)
+    Vec::from_slice(alloc, set.members().as_slice())
 }

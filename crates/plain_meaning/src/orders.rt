@@ -5,6 +5,7 @@ ghost use Rattle.structural_props.specs.Rows.{column_cmp, items};
 ghost use Rattle.logical_trees.specs.Rows as spec;
 
 use crate::compare::compare_in;
+use arrayvec::ArrayVec;
 use col_sets::{ColId, ColSet, Dir, KeyOrders};
 use logical_trees::TopArgs;
 use scope_value::Row;
@@ -20,7 +21,7 @@ pub(crate) fn first_rows(
 ) -> Result<Vec<Row>, AllocError>
     ensures { IfOk result (λ first. first.items ≡ spec.first_rows args.now cols rows.now) }
 {
-    let mut first = rows_in_order(alloc, cols, args.order.as_slice(), rows)?;
+    let mut first = rows_in_order(alloc, cols, args.order.keys().as_slice(), rows)?;
     first.truncate(args.n as usize);
     Ok(first)
 }
@@ -40,12 +41,12 @@ pub(crate) fn rows_in_order(
 }
 
 /// The columns of an order that may be left out.
-pub(crate) fn order_of(order: &Option<KeyOrders>) -> &[(ColId, Dir)]
-    ensures { result.now ≡ spec.order_of order.now }
+pub(crate) fn order_of(order: &Option<KeyOrders>) -> ArrayVec<(ColId, Dir), 4>
+    ensures { result.items ≡ spec.order_of order.now }
 {
     match order {
-        Some(order) => order.as_slice(),
-        None => &[],
+        Some(order) => order.keys(),
+        None => ArrayVec::new(),
     }
 }
 

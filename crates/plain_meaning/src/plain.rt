@@ -124,7 +124,7 @@ fn one_bag(
                 presort,
                 rows,
             };
-            Ok(Some(reduced_rows(alloc, ops, call, on.as_slice(), &input)?))
+            Ok(Some(reduced_rows(alloc, ops, call, on.columns().as_slice(), &input)?))
         }
         LogicOp::Group(_)
         | LogicOp::Top(_)

@@ -1,4 +1,6 @@
 //! The tables of schemes and of local actions, each answer worked by hand from the written test.
+ghost use Rattle.std.specs.Prelude.{◌<◌};
+
 use super::*;
 use col_sets::{ColId, ColSet, Dir, KeyCols, KeyOrders};
 use fd_closure::Facts;
@@ -14,20 +16,20 @@ struct Case<'a> {
 }
 
 fn set_of<const N: usize>(cols: [ColId; N]) -> ColSet {
-    let mut set = ColSet::empty();
-    for c in &cols {
-        set = set.with(*c);
-    }
-    set
+    ColSet::of(&cols)
 }
 
-fn key_of(first: ColId, second: ColId) -> KeyCols {
+fn key_of(first: ColId, second: ColId) -> KeyCols
+    requires { first < 128 }
+{
     let mut key = KeyCols::new(first);
     let _room = key.push(second);
     key
 }
 
-fn orders_of(first: ColId, second: ColId) -> KeyOrders {
+fn orders_of(first: ColId, second: ColId) -> KeyOrders
+    requires { first < 128 }
+{
     let mut keys = KeyOrders::new(first, Dir::Down);
     let _room = keys.push(second, Dir::Up);
     keys
@@ -57,11 +59,15 @@ fn together<const N: usize>(cols: [ColId; N]) -> NeedScheme {
     NeedScheme::Together(set_of(cols))
 }
 
-fn exact(c: ColId) -> NeedScheme {
+fn exact(c: ColId) -> NeedScheme
+    requires { c < 128 }
+{
     NeedScheme::HashExact(KeyCols::new(c))
 }
 
-fn hash(c: ColId) -> Scheme {
+fn hash(c: ColId) -> Scheme
+    requires { c < 128 }
+{
     Scheme::Hash(KeyCols::new(c))
 }
 

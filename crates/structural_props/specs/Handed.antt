@@ -2,7 +2,7 @@
 use Rattle.std.specs.Prelude.{ℕ, Bool, true, false, if◌then◌else◌, List, [], ◌∷◌, map, Option, unwrap_or, is_some}
 use Rattle.std.specs.List.{list_all}
 use Rattle.col_sets.specs.declared.dir.Dir.{Dir}
-use Rattle.col_sets.specs.Sets.{has, within, columns_where}
+use Rattle.col_sets.specs.Sets.{has, within, set_of}
 use Rattle.structural_props.specs.declared.scheme.Scheme.{Scheme}
 use Rattle.structural_props.specs.declared.scheme.Scheme.TheVariants.{Any, Serial, Hash, Range, Copies}
 use Rattle.structural_props.specs.declared.action.Action.{Action}
@@ -82,7 +82,7 @@ all_named name cols = list_all (is_named name) cols
 
 -- the set of the names
 abbrev pub names_of : (ℕ → Option ℕ) → List ℕ → List ℕ
-names_of name s = columns_where (has (map (new_name name) s))
+names_of name s = set_of (map (new_name name) s)
 
 -- keys under their names
 abbrev pub renamed_keys : (ℕ → Option ℕ) → List (ℕ × Dir) → List (ℕ × Dir)

@@ -1,13 +1,12 @@
-use Rattle.std.proofs.Common.{arith}
-use Rattle.std.proofs.lemmas.Nat.{or_lt}
-use Rattle.col_sets.proofs.ColSets.{members-with, members_beyond}
+use Rattle.std.proofs.Common.{sym, ◌∙◌}
+use Rattle.col_sets.proofs.ColSets.{members-with, members_beyond, column_not, column_is}
 use Rattle.col_sets.proofs.col_set.ColSet.with.Goals as goal
 
-pub invariant_of-larger : goal.invariant_of-larger
-invariant_of-larger c = or_lt 128 _ _ c.self.invariant (omega arith)
+pub returns-then-not-is_column : goal.returns-then-not-is_column
+returns-then-not-is_column c =
+    rw (← c.bits-bits.ensures) (members_beyond c.bits-bits.result c.args.c (column_not c.args.c (sym c.is_column.ensures ∙ c.if-not-is_column.true)))
 
 pub returns : goal.returns
-returns c = rw (← c.self.view_is) (members-with c.self.inside.bits c.args.c (omega arith))
-
-pub returns-then-c-ge128 : goal.returns-then-c-ge128
-returns-then-c-ge128 c = rw (← c.self.view_is) (members_beyond c.self.inside.bits c.args.c (omega arith))
+returns c =
+    rw (← c.bits-bits.ensures)
+    (c.of_bits.ensures ∙ members-with c.bits-bits.result c.args.c (column_is c.args.c (sym c.is_column.ensures ∙ c.if-not-is_column.false)))
