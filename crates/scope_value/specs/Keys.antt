@@ -44,7 +44,8 @@ directed_total : {K : Type 0} {R : K → K → Ordering} (down : Bool) → IsTot
 directed_total false total = total
 directed_total true total = back_total total
 
-items_cmp_total : (items : List KeyItem) → IsTotalOrder (items_cmp items)
+-- the order by items is one
+pub items_cmp_total : (items : List KeyItem) → IsTotalOrder (items_cmp items)
 items_cmp_total [] = none_total
 items_cmp_total (item ∷ items) = then_total (directed_total item.down (on_total (column item.place) value_cmp_total)) (items_cmp_total items)
 
