@@ -19,12 +19,13 @@ use Rattle.logical_trees.specs.Formed.{IsGroup, IsJoin, IsOver, IsFormed}
 use Rattle.logical_dag.specs.Facts.{IsLinked, stated, Renamed, BothRenamed, DependencyRenamed, IsAggregate, AreSameItem, SetsConstant, SetsEqual, ref_name, item_name, key_name, is_literal, IsConstant, Determines, AreEqual, AreFactsOf}
 use Rattle.logical_dag.specs.Laws.{lent_columns}
 use Rattle.std.proofs.lemmas.Option.{slice_get-map}
-use Rattle.logical_dag.specs.Known.{IsLentSet, IsDependency, IsOwn, AreBelow, AreClasses, AreDependencies, AreConstants, CarriedEqualities, AreRenamed, AreProjected, AreGrouped, AreJoined, AreApart, IsJoinApart}
-use Rattle.logical_dag.proofs.Classes.{linked_same, classes_same, classes_linked}
+use Rattle.logical_dag.specs.Known.{IsLentSet, IsDependency, IsOwn, AreBelow, AreClasses, AreDependencies, AreConstants, AreRenamed, AreProjected, AreGrouped, AreJoined, AreApart, IsJoinApart}
+use Rattle.logical_dag.proofs.Classes.{classes_same, classes_chain, classes_linked}
 use Rattle.logical_trees.specs.ColumnLemmas.{columns_set}
-use Rattle.logical_dag.proofs.KnownColumns.{AreAbout, known_about, key_source, key_named, equal_over}
-use Rattle.logical_dag.proofs.Links.{equal_itself}
-use Rattle.logical_dag.proofs.Constants.{constants_same, constants_same_low}
+use Rattle.logical_dag.proofs.KnownColumns.{AreAbout, known_about, equal_over}
+use Rattle.logical_dag.proofs.Links.{linked_within, equal_itself, equal_turned, equal_chained}
+use Rattle.logical_dag.proofs.JoinTables.{either_both, joined_constants, joined_dependencies, joined_classes}
+use Rattle.logical_dag.proofs.Constants.{constants_same, constants_chain}
 use Rattle.logical_dag.proofs.Dependencies.{dependencies_same, dependencies_moved}
 use Rattle.logical_dag.proofs.KnownSteps.{key_low, item_low, ref_low}
 
@@ -50,6 +51,22 @@ module _ (shared : List Facts) (t : Expression) (f : Facts) (results : List (Lis
       go : (a ≡ b) ⊎ ((has (columns_of t) a ≡ true) × (has (columns_of t) b ≡ true)) → (a ≡ b) ⊎ (equal_of f a b ≡ true)
       go (inl e) = inl e
       go (inr k) = inr ((h.equal a b (low a k.0) (low b k.1)).1 m)
+
+  -- the facts have the equal columns of the table
+  pub facts_classes : AreClasses f (AreEqual shared t)
+  facts_classes = record {
+    own = facts_own shared t f h;
+    there = λ c d m. stated (equal_there c d m);
+    back = λ c d l. equal_back c d (linked_within (AreEqual shared t) (AreEqual shared t) (λ a b m. m) (equal_itself shared t) (equal_turned shared t) (equal_chained shared t) c d l);
+  }
+
+  -- what the table says of dependencies is of columns below 128
+  pub determined_low : (s : List ℕ) (c : ℕ) → Determines shared t s c → c < 128
+  determined_low s c m = low c (about.determined s c m)
+
+  -- columns that are equal are one, or are columns of the rows
+  pub equal_within : (c d : ℕ) → AreEqual shared t c d → (c ≡ d) ⊎ ((has f.columns c ≡ true) × (has f.columns d ≡ true))
+  equal_within c d m = subst (λ (s : List ℕ). (c ≡ d) ⊎ ((has s c ≡ true) × (has s d ≡ true))) (sym h.columns) (about.equal c d m)
 
   -- renamed facts of the expression
   module _ (name : ℕ → Option ℕ) (named : (b c : ℕ) → name b ≡ Some c → b < 128) where
@@ -81,90 +98,56 @@ module _ (shared : List Facts) (t : Expression) (f : Facts) (results : List (Lis
     both_back : (c d : ℕ) → BothRenamed name (AreEqual shared t) c d → BothRenamed name (λ a b. equal_of f a b ≡ true) c d
     both_back c d m = (m.0, m.1, (h.equal m.0 m.1 (named m.0 c m.3) (named m.1 d m.4)).1 m.2, m.3, m.4)
 
+    -- with what is stated beside them
+    constants_renamed : (g : Facts) (C : ℕ → Type 0) → AreConstants g (λ c. Renamed name (λ b. has f.constants b ≡ true) c ⊎ C c) → AreConstants g (λ c. Renamed name (IsConstant shared t) c ⊎ C c)
+    constants_renamed g C k = constants_same g _ _ k (λ c. either_both (constant_there c) (λ m. m)) (λ c. either_both (constant_back c) (λ m. m))
+
+    depends_renamed : (g : Facts) → AreDependencies g (DependencyRenamed name (IsDependency f)) → AreDependencies g (DependencyRenamed name (Determines shared t))
+    depends_renamed g k = dependencies_same g _ _ k depend_there depend_back
+
+    classes_renamed : (g : Facts) → AreClasses g (BothRenamed name (λ a b. equal_of f a b ≡ true)) → AreClasses g (BothRenamed name (AreEqual shared t))
+    classes_renamed g k = classes_same g _ k _ (λ c d m. stated (both_there c d m)) (λ c d m. stated (both_back c d m))
+
   -- the facts of the first step of a grouping
   pub partial_facts : (args : GroupArgs) (g : Facts) → IsGroup args → AreRenamed f (key_name args.keys) (group_columns args) g → AreFactsOf shared (one (Partial args) t) g
   partial_facts args g group r =
-      let depends = dependencies_same g (DependencyRenamed (key_name args.keys) (IsDependency f)) (DependencyRenamed (key_name args.keys) (Determines shared t)) r.dependencies
-      (depend_there (key_name args.keys) (key_low args.keys group.key_set)) (depend_back (key_name args.keys) (key_low args.keys group.key_set))
-      in
+      let named = key_low args.keys group.key_set in
+      let depends = depends_renamed (key_name args.keys) named g r.dependencies in
       record {
         columns = r.columns;
-        constants = constants_same g (Renamed (key_name args.keys) (λ b. has f.constants b ≡ true)) (Renamed (key_name args.keys) (IsConstant shared t)) r.constants
-            (constant_there (key_name args.keys) (key_low args.keys group.key_set)) (constant_back (key_name args.keys) (key_low args.keys group.key_set));
+        constants = constants_same g _ _ r.constants (constant_there (key_name args.keys) named) (constant_back (key_name args.keys) named);
         stated = depends.stated;
         all = depends.all;
-        equal = classes_linked g (BothRenamed (key_name args.keys) (AreEqual shared t))
-            (classes_same g (BothRenamed (key_name args.keys) (λ a b. equal_of f a b ≡ true)) r.classes (BothRenamed (key_name args.keys) (AreEqual shared t))
-            (λ c d m. stated (both_there (key_name args.keys) (key_low args.keys group.key_set) c d m)) (λ c d m. stated (both_back (key_name args.keys) (key_low args.keys group.key_set) c d m)));
+        equal = classes_linked g _ (classes_renamed (key_name args.keys) named g r.classes);
       }
 
   -- the facts of a projection
   pub project_facts : (items : List Expr) (cols : List ℕ) (g : Facts) → All (IsOver (columns_of t)) items → AreProjected items cols f g → AreFactsOf shared (one (Project items cols) t) g
   project_facts items cols g over r =
-      let depends = dependencies_same g (DependencyRenamed (item_name items cols) (IsDependency f)) (DependencyRenamed (item_name items cols) (Determines shared t)) r.dependencies
-      (depend_there (item_name items cols) named) (depend_back (item_name items cols) named)
-      in
+      let named = item_low (columns_of t) items cols (columns_set results t formed) over in
+      let depends = depends_renamed (item_name items cols) named g r.dependencies in
       record {
         columns = r.columns;
-        constants = constants_same g _ (IsConstant shared (one (Project items cols) t)) r.constants there back;
+        constants = constants_renamed (item_name items cols) named g _ r.constants;
         stated = depends.stated;
         all = depends.all;
-        equal = classes_linked g (λ c d. BothRenamed (item_name items cols) (AreEqual shared t) c d ⊎ AreSameItem items cols c d)
-            (classes_same g (λ c d. BothRenamed (item_name items cols) (λ a b. equal_of f a b ≡ true) c d ⊎ AreSameItem items cols c d) r.classes
-            (λ c d. BothRenamed (item_name items cols) (AreEqual shared t) c d ⊎ AreSameItem items cols c d) (λ c d m. stated (equal_forth c d m)) (λ c d m. stated (equal_again c d m)));
+        equal = classes_linked g _
+            (classes_same g _ r.classes (λ c d. BothRenamed (item_name items cols) (AreEqual shared t) c d ⊎ AreSameItem items cols c d)
+            (λ c d m. stated (either_both (both_there (item_name items cols) named c d) (λ n. n) m)) (λ c d m. stated (either_both (both_back (item_name items cols) named c d) (λ n. n) m)));
       }
-    where
-      named : (b c : ℕ) → item_name items cols b ≡ Some c → b < 128
-      named = item_low (columns_of t) items cols (columns_set results t formed) over
-
-      there : (c : ℕ) → Renamed (item_name items cols) (λ b. has f.constants b ≡ true) c ⊎ ((i : ℕ) × (slice_get cols i ≡ Some c) × IsSomeAnd (slice_get items i) (λ e. is_literal e ≡ true)) → IsConstant shared (one (Project items cols) t) c
-      there c (inl m) = inl (constant_there (item_name items cols) named c m)
-      there c (inr m) = inr m
-
-      back : (c : ℕ) → IsConstant shared (one (Project items cols) t) c → Renamed (item_name items cols) (λ b. has f.constants b ≡ true) c ⊎ ((i : ℕ) × (slice_get cols i ≡ Some c) × IsSomeAnd (slice_get items i) (λ e. is_literal e ≡ true))
-      back c (inl m) = inl (constant_back (item_name items cols) named c m)
-      back c (inr m) = inr m
-
-      equal_forth : (c d : ℕ) → BothRenamed (item_name items cols) (λ a b. equal_of f a b ≡ true) c d ⊎ AreSameItem items cols c d → BothRenamed (item_name items cols) (AreEqual shared t) c d ⊎ AreSameItem items cols c d
-      equal_forth c d (inl m) = inl (both_there (item_name items cols) named c d m)
-      equal_forth c d (inr m) = inr m
-
-      equal_again : (c d : ℕ) → BothRenamed (item_name items cols) (AreEqual shared t) c d ⊎ AreSameItem items cols c d → BothRenamed (item_name items cols) (λ a b. equal_of f a b ≡ true) c d ⊎ AreSameItem items cols c d
-      equal_again c d (inl m) = inl (both_back (item_name items cols) named c d m)
-      equal_again c d (inr m) = inr m
 
   -- the facts of a grouping
   pub group_facts : (args : GroupArgs) (g : Facts) → IsGroup args → AreGrouped args f g → AreFactsOf shared (one (Group args) t) g
   group_facts args g group r =
-      let depends = dependencies_same g _ (Determines shared (one (Group args) t)) r.dependencies depends_there depends_back in
+      let named = key_low args.keys group.key_set in
+      let depends = dependencies_same g _ (Determines shared (one (Group args) t)) r.dependencies (λ s c. either_both (depend_there (key_name args.keys) named s c) (λ m. m)) (λ s c. either_both (depend_back (key_name args.keys) named s c) (λ m. m)) in
       record {
         columns = r.columns;
-        constants = constants_same g _ (IsConstant shared (one (Group args) t)) r.constants there back;
+        constants = constants_renamed (key_name args.keys) named g _ r.constants;
         stated = depends.stated;
         all = depends.all;
-        equal = classes_linked g (BothRenamed (key_name args.keys) (AreEqual shared t))
-            (classes_same g (BothRenamed (key_name args.keys) (λ a b. equal_of f a b ≡ true)) r.classes (BothRenamed (key_name args.keys) (AreEqual shared t))
-            (λ c d m. stated (both_there (key_name args.keys) named c d m)) (λ c d m. stated (both_back (key_name args.keys) named c d m)));
+        equal = classes_linked g _ (classes_renamed (key_name args.keys) named g r.classes);
       }
-    where
-      named : (b c : ℕ) → key_name args.keys b ≡ Some c → b < 128
-      named = key_low args.keys group.key_set
-
-      there : (c : ℕ) → Renamed (key_name args.keys) (λ b. has f.constants b ≡ true) c ⊎ ((args.keys ≡ []) × IsAggregate args c) → IsConstant shared (one (Group args) t) c
-      there c (inl m) = inl (constant_there (key_name args.keys) named c m)
-      there c (inr m) = inr m
-
-      back : (c : ℕ) → IsConstant shared (one (Group args) t) c → Renamed (key_name args.keys) (λ b. has f.constants b ≡ true) c ⊎ ((args.keys ≡ []) × IsAggregate args c)
-      back c (inl m) = inl (constant_back (key_name args.keys) named c m)
-      back c (inr m) = inr m
-
-      depends_there : (s : List ℕ) (c : ℕ) → DependencyRenamed (key_name args.keys) (IsDependency f) s c ⊎ ((args.keys ≢ []) × (s ≡ args.keys) × IsAggregate args c) → Determines shared (one (Group args) t) s c
-      depends_there s c (inl m) = inl (depend_there (key_name args.keys) named s c m)
-      depends_there s c (inr m) = inr m
-
-      depends_back : (s : List ℕ) (c : ℕ) → Determines shared (one (Group args) t) s c → DependencyRenamed (key_name args.keys) (IsDependency f) s c ⊎ ((args.keys ≢ []) × (s ≡ args.keys) × IsAggregate args c)
-      depends_back s c (inl m) = inl (depend_back (key_name args.keys) named s c m)
-      depends_back s c (inr m) = inr m
 
   -- the facts of the second step of a grouping
   pub finish_facts : (args : GroupArgs) (g : Facts) → IsGroup args → AreGrouped args f g → AreFactsOf shared (one (Finish args) t) g
@@ -175,37 +158,15 @@ module _ (shared : List Facts) (t : Expression) (f : Facts) (results : List (Lis
   -- the facts of a filter
   pub filter_facts : (e : Expr) (g : Facts) → g ≡ record f { constants = g.constants; class = g.class } → AreConstants g (λ c. (has f.constants c ≡ true) ⊎ SetsConstant e c)
       → AreClasses g (λ c d. (equal_of f c d ≡ true) ⊎ SetsEqual e c d) → AreFactsOf shared (one (Filter e) t) g
-  filter_facts e g rest constants classes = record {
-    columns = ap (λ (x : Facts). x.columns) rest ∙ h.columns;
-    constants = constants_same_low g _ (IsConstant shared (one (Filter e) t)) constants there back;
-    stated = depends.stated;
-    all = depends.all;
-    equal = classes_linked g (λ c d. AreEqual shared t c d ⊎ SetsEqual e c d)
-        (classes_same g (λ c d. (equal_of f c d ≡ true) ⊎ SetsEqual e c d) classes (λ c d. AreEqual shared t c d ⊎ SetsEqual e c d) (λ c d m. stated (equal_forth c d m)) equal_again);
-  }
-    where
-      depends : AreDependencies g (Determines shared t)
-      depends = dependencies_moved f g (Determines shared t) (ap (λ (x : Facts). x.determined) rest) (ap (λ (x : Facts). x.by) rest) (record { stated = h.stated; all = h.all })
-
-      there : (c : ℕ) → c < 128 → (has f.constants c ≡ true) ⊎ SetsConstant e c → IsConstant shared t c ⊎ SetsConstant e c
-      there c l (inl m) = inl ((h.constants c l).0 m)
-      there c l (inr m) = inr m
-
-      back : (c : ℕ) → c < 128 → IsConstant shared t c ⊎ SetsConstant e c → (has f.constants c ≡ true) ⊎ SetsConstant e c
-      back c l (inl m) = inl ((h.constants c l).1 m)
-      back c l (inr m) = inr m
-
-      equal_forth : (c d : ℕ) → (equal_of f c d ≡ true) ⊎ SetsEqual e c d → AreEqual shared t c d ⊎ SetsEqual e c d
-      equal_forth c d (inl m) = inl (equal_there c d m)
-      equal_forth c d (inr m) = inr m
-
-      equal_again : (c d : ℕ) → AreEqual shared t c d ⊎ SetsEqual e c d → IsLinked (λ c d. (equal_of f c d ≡ true) ⊎ SetsEqual e c d) c d
-      equal_again c d (inl m) = go (equal_back c d m)
-        where
-          go : (c ≡ d) ⊎ (equal_of f c d ≡ true) → IsLinked (λ c d. (equal_of f c d ≡ true) ⊎ SetsEqual e c d) c d
-          go (inl i) = linked_same _ c d i
-          go (inr k) = stated (inl k)
-      equal_again c d (inr m) = stated (inr m)
+  filter_facts e g rest constants classes =
+      let depends = dependencies_moved f g (Determines shared t) (ap (λ (x : Facts). x.determined) rest) (ap (λ (x : Facts). x.by) rest) (record { stated = h.stated; all = h.all }) in
+      record {
+        columns = ap (λ (x : Facts). x.columns) rest ∙ h.columns;
+        constants = constants_chain f g (IsConstant shared t) (SetsConstant e) h.constants constants;
+        stated = depends.stated;
+        all = depends.all;
+        equal = classes_linked g _ (classes_chain f g (AreEqual shared t) (SetsEqual e) facts_classes classes);
+      }
 
 -- facts of which nothing is known but the columns
 pub plain_facts : (shared : List Facts) (f : Facts) → f.constants ≡ [] → f.determined ≡ [] → ((c d : ℕ) → equal_of f c d ≡ (nat_lt c 128 && nat_eq c d))
@@ -260,64 +221,16 @@ module _ (shared : List Facts) (results : List (List ℕ)) (t u : Expression) (l
   pub join_facts : (on : _) (op : LogicOp) → op ≡ Join on → (g : Facts) → AreJoined on.items left right g → AreFactsOf shared (two (Join on) t u) g
   join_facts on op e g r = record {
     columns = r.columns ∙ ap₂ union h.columns k.columns;
-    constants = constants_same_low g (λ c. (has left.constants c ≡ true) ⊎ (has right.constants c ≡ true)) (IsConstant shared (two (Join on) t u)) r.constants there back;
-    stated = λ c l m. given c (r.dependencies.stated c l m);
-    all = all;
-    equal = classes_linked g (λ c d. AreEqual shared t c d ⊎ (AreEqual shared u c d ⊎ Contains on.items (c, d)))
-        (classes_same g (λ c d. CarriedEqualities right (key_name right.columns) left c d ⊎ Contains on.items (c, d)) r.classes (λ c d. AreEqual shared t c d ⊎ (AreEqual shared u c d ⊎ Contains on.items (c, d)))
-        (λ c d m. stated (equal_forth c d m)) equal_again);
+    constants = joined_constants on.items left right g r (IsConstant shared t) (IsConstant shared u) h.constants k.constants;
+    stated = depends.stated;
+    all = depends.all;
+    equal = classes_linked g _ (joined_classes on.items left right g r (AreEqual shared t) (AreEqual shared u) (facts_classes shared t left results formed h) (facts_classes shared u right results other k)
+        (equal_within shared u right results other k));
   }
     where
-      there : (c : ℕ) → c < 128 → (has left.constants c ≡ true) ⊎ (has right.constants c ≡ true) → IsConstant shared t c ⊎ IsConstant shared u c
-      there c l (inl m) = inl ((h.constants c l).0 m)
-      there c l (inr m) = inr ((k.constants c l).0 m)
-
-      back : (c : ℕ) → c < 128 → IsConstant shared t c ⊎ IsConstant shared u c → (has left.constants c ≡ true) ⊎ (has right.constants c ≡ true)
-      back c l (inl m) = inl ((h.constants c l).1 m)
-      back c l (inr m) = inr ((k.constants c l).1 m)
-
-      given : (c : ℕ) → IsDependency left (by_of g c) c ⊎ IsDependency right (by_of g c) c → Determines shared t (by_of g c) c ⊎ Determines shared u (by_of g c) c
-      given c (inl m) = inl (subst (λ (s : List ℕ). Determines shared t s c) (sym m.2) (h.stated c m.0 m.1))
-      given c (inr m) = inr (subst (λ (s : List ℕ). Determines shared u s c) (sym m.2) (k.stated c m.0 m.1))
-
-      all : (s : List ℕ) (c : ℕ) → Determines shared t s c ⊎ Determines shared u s c → (has g.determined c ≡ true) × ((d : ℕ) → has s d ≡ has (by_of g c) d)
-      all s c (inl m) =
-          let p = h.all s c m in
-          let l = has_below (columns_of t) (columns_set results t formed) c ((known_about shared results t formed).determined s c m) in
-          let q = r.dependencies.all (by_of left c) c (inl (l, p.0, refl)) in
-          (q.0, λ d. p.1 d ∙ q.1 d)
-      all s c (inr m) =
-          let p = k.all s c m in
-          let l = has_below (columns_of u) (columns_set results u other) c (beside.determined s c m) in
-          let q = r.dependencies.all (by_of right c) c (inr (l, p.0, refl)) in
-          (q.0, λ d. p.1 d ∙ q.1 d)
-
-      named : (c : ℕ) → has (columns_of u) c ≡ true → key_name right.columns c ≡ Some c
-      named c m = key_named right.columns c (ap (λ (s : List ℕ). has s c) k.columns ∙ m)
-
-      equal_forth : (c d : ℕ) → CarriedEqualities right (key_name right.columns) left c d ⊎ Contains on.items (c, d) → AreEqual shared t c d ⊎ (AreEqual shared u c d ⊎ Contains on.items (c, d))
-      equal_forth c d (inl (inl m)) = inl (equal_there shared t left results formed h c d m)
-      equal_forth c d (inl (inr m)) =
-          let p = key_source right.columns m.0 c m.3 in
-          let q = key_source right.columns m.1 d m.4 in
-          inr (inl (subst (λ (i : ℕ). AreEqual shared u i d) p.1 (subst (λ (j : ℕ). AreEqual shared u m.0 j) q.1 (equal_there shared u right results other k m.0 m.1 m.2))))
-      equal_forth c d (inr m) = inr (inr m)
-
-      equal_again : (c d : ℕ) → AreEqual shared t c d ⊎ (AreEqual shared u c d ⊎ Contains on.items (c, d)) → IsLinked (λ c d. CarriedEqualities right (key_name right.columns) left c d ⊎ Contains on.items (c, d)) c d
-      equal_again c d (inl m) = go (equal_back shared t left results formed h c d m)
-        where
-          go : (c ≡ d) ⊎ (equal_of left c d ≡ true) → IsLinked (λ c d. CarriedEqualities right (key_name right.columns) left c d ⊎ Contains on.items (c, d)) c d
-          go (inl e) = linked_same _ c d e
-          go (inr n) = stated (inl (inl n))
-      equal_again c d (inr (inl m)) = go (beside.equal c d m)
-        where
-          go : (c ≡ d) ⊎ ((has (columns_of u) c ≡ true) × (has (columns_of u) d ≡ true)) → IsLinked (λ c d. CarriedEqualities right (key_name right.columns) left c d ⊎ Contains on.items (c, d)) c d
-          go (inl e) = linked_same _ c d e
-          go (inr n) =
-              let l = has_below (columns_of u) (columns_set results u other) c n.0 in
-              let o = has_below (columns_of u) (columns_set results u other) d n.1 in
-              stated (inl (inr (c, d, (k.equal c d l o).1 m, named c n.0, named d n.1)))
-      equal_again c d (inr (inr m)) = stated (inr m)
+      depends : AreDependencies g (Determines shared (two (Join on) t u))
+      depends = joined_dependencies on.items left right g r (Determines shared t) (Determines shared u) (determined_low shared t left results formed h) (determined_low shared u right results other k)
+          (record { stated = h.stated; all = h.all }) (record { stated = k.stated; all = k.all })
 
 -- the other kinds keep the facts of what is below them
 pub kept_facts : (shared : List Facts) (op : LogicOp) (t : Expression) (f : Facts) → ((e : Expr) → op ≡ Filter e → ⊥) → ((items : List Expr) (cols : List ℕ) → op ≡ Project items cols → ⊥)

@@ -9,6 +9,7 @@ pub mod FirstFacts
 pub mod Gathering
 pub mod ItemFacts
 pub mod JoinFacts
+pub mod JoinTables
 pub mod KnownColumns
 pub mod KnownHold
 pub mod KnownNodes

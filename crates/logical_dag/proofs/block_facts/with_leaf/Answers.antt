@@ -12,4 +12,4 @@ joined-requires-clause-apart c =
 pub returns : goal.returns
 returns c =
     let shared = c.args.shared.now in
-    one_added shared (lent_columns shared) (tree_of c.args.tree.now) c.requires.formed c.args.into c.facts_by-leaf.result c.joined.result c.facts_by-leaf.ensures c.joined.ensures
+    one_added shared (lent_columns shared) (tree_of c.args.tree.now) c.requires.formed c.args.into c.facts_by-leaf.result c.joined.result c.requires.over.own c.facts_by-leaf.ensures c.joined.ensures
