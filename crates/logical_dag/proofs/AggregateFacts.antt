@@ -8,6 +8,7 @@ use Rattle.fd_closure.specs.Known.{by_of}
 use Rattle.logical_trees.specs.declared.agg.Agg.{Agg}
 use Rattle.logical_dag.specs.Known.{AreDependencies, IsDependency}
 use Rattle.list_lemmas.specs.Reading.{one_read}
+use Rattle.logical_dag.proofs.Either.{either_both, either_second}
 use Rattle.logical_dag.proofs.Dependencies.{dependencies_same, dependencies_kept, dependencies_chain, dependencies_with}
 use Rattle.logical_dag.proofs.OneBelow.{OneBelow, one_more, one_split}
 
@@ -74,20 +75,8 @@ keyed_step into f g keys aggs n a l e lows room free is h =
 
     back : (s : List ℕ) (d : ℕ) → KeyedBelow into keys aggs (n + 1) s d → KeyedBelow into keys aggs n s d ⊎ ((s ≡ keys) × IsAggregateAt aggs n d)
     back s d (inl m) = inl (inl m)
-    back s d (inr m) = go (one_split into (IsAggregateAt aggs) n d m.1)
-      where
-        go : OneBelow (IsAggregateAt aggs) n d ⊎ IsAggregateAt aggs n d → KeyedBelow into keys aggs n s d ⊎ ((s ≡ keys) × IsAggregateAt aggs n d)
-        go (inl k) = inl (inr (m.0, k))
-        go (inr k) = inr (m.0, k)
+    back s d (inr m) = either_both (λ k. inr (m.0, k)) (λ k. (m.0, k)) (one_split into (IsAggregateAt aggs) n d m.1)
 
 pub keyed_done : (into f : Facts) (keys : List ℕ) (aggs : List Agg) (n : ℕ) → length aggs ≤ n → AreDependencies f (λ s c. IsDependency into s c ⊎ ((s ≡ keys) × OneBelow (IsAggregateAt aggs) n c))
     → AreDependencies f (λ s c. IsDependency into s c ⊎ ((s ≡ keys) × Any (λ a. a.id ≡ c) aggs))
-keyed_done into f keys aggs n l h = dependencies_same f _ _ h there back
-  where
-    there : (s : List ℕ) (c : ℕ) → IsDependency into s c ⊎ ((s ≡ keys) × OneBelow (IsAggregateAt aggs) n c) → IsDependency into s c ⊎ ((s ≡ keys) × Any (λ a. a.id ≡ c) aggs)
-    there s c (inl m) = inl m
-    there s c (inr m) = inr (m.0, aggregates_there aggs n c m.1)
-
-    back : (s : List ℕ) (c : ℕ) → IsDependency into s c ⊎ ((s ≡ keys) × Any (λ a. a.id ≡ c) aggs) → IsDependency into s c ⊎ ((s ≡ keys) × OneBelow (IsAggregateAt aggs) n c)
-    back s c (inl m) = inl m
-    back s c (inr m) = inr (m.0, aggregates_back aggs n c l m.1)
+keyed_done into f keys aggs n l h = dependencies_same f _ _ h (λ s c. either_second (λ m. (m.0, aggregates_there aggs n c m.1))) (λ s c. either_second (λ m. (m.0, aggregates_back aggs n c l m.1)))

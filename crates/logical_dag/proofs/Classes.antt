@@ -7,6 +7,7 @@ use Rattle.fd_closure.specs.Known.{class_of, equal_of, IsMerged}
 use Rattle.fd_closure.specs.Laws.{equal_parts, equal_of_parts}
 use Rattle.logical_dag.specs.Facts.{IsLinked, stated, itself, turned, chained}
 use Rattle.logical_dag.specs.Known.{IsOwn, AreClasses}
+use Rattle.logical_dag.proofs.Either.{from_either, either_both, either_second}
 
 -- chains of links of another kind
 pub linked_bind : (P Q : ℕ → ℕ → Type 0) → ((a b : ℕ) → P a b → IsLinked Q a b) → (a b : ℕ) → IsLinked P a b → IsLinked Q a b
@@ -43,8 +44,7 @@ module _ (f : Facts) where
   linked_one P h a b (turned l) = go (linked_one P h b a l)
     where
       go : AreOne b a → AreOne a b
-      go (inl e) = inl (sym e)
-      go (inr k) = inr (equal_turned b a k)
+      go = either_both sym (equal_turned b a)
   linked_one P h a b (chained {d = c} l m) = go (linked_one P h a c l) (linked_one P h c b m)
     where
       go : AreOne a c → AreOne c b → AreOne a b
@@ -68,11 +68,7 @@ module _ (f : Facts) (P : ℕ → ℕ → Type 0) (h : AreClasses f P) where
 
   -- columns below 128 are equal by the facts just where chains link them
   pub classes_linked : (a b : ℕ) → a < 128 → b < 128 → (equal_of f a b ≡ true) ↔ IsLinked P a b
-  classes_linked a b l m = (h.there a b, λ k. go (h.back a b k))
-    where
-      go : AreOne f a b → equal_of f a b ≡ true
-      go (inl e) = subst (λ (i : ℕ). equal_of f a i ≡ true) e (h.own a l)
-      go (inr k) = k
+  classes_linked a b l m = (h.there a b, λ k. from_either (λ e. subst (λ (i : ℕ). equal_of f a i ≡ true) e (h.own a l)) (λ n. n) (h.back a b k))
 
   -- with two classes merged
   pub classes_merged : (c d : ℕ) (g : Facts) → c < 128 → d < 128 → IsMerged f c d g → AreClasses g (λ a b. P a b ⊎ ((a ≡ c) × (b ≡ d)))
@@ -102,11 +98,7 @@ module _ (f : Facts) (P : ℕ → ℕ → Type 0) (h : AreClasses f P) where
               side (inr j) = let p = both _ _ j in chained (old a d p.0) (chained (turned pair) (old c b p.1))
 
       stated_back : (a b : ℕ) → P a b ⊎ ((a ≡ c) × (b ≡ d)) → (a ≡ b) ⊎ (equal_of g a b ≡ true)
-      stated_back a b (inl p) = go (h.back a b (stated p))
-        where
-          go : AreOne f a b → (a ≡ b) ⊎ (equal_of g a b ≡ true)
-          go (inl e) = inl e
-          go (inr k) = inr (kept a b k)
+      stated_back a b (inl p) = either_second (kept a b) (h.back a b (stated p))
       stated_back a b (inr p) = inr (subst (λ (i : ℕ). equal_of g i b ≡ true) (sym p.0) (subst (λ (i : ℕ). equal_of g c i ≡ true) (sym p.1) new))
 
       linked_back : (a b : ℕ) → IsLinked (λ a b. P a b ⊎ ((a ≡ c) × (b ≡ d))) a b → (a ≡ b) ⊎ (equal_of g a b ≡ true)
@@ -117,51 +109,29 @@ pub classes_moved : (f g : Facts) (P : ℕ → ℕ → Type 0) → g.class ≡ f
 classes_moved f g P e h = record {
   own = λ c l. same c c ∙ h.own c l;
   there = λ c d k. h.there c d (sym (same c d) ∙ k);
-  back = λ c d l. go c d (h.back c d l);
+  back = λ c d l. either_second (λ k. same c d ∙ k) (h.back c d l);
 }
   where
     same : (c d : ℕ) → equal_of g c d ≡ equal_of f c d
     same c d = ap (λ (s : List ℕ). equal_of (record f { class = s }) c d) e
-
-    go : (c d : ℕ) → (c ≡ d) ⊎ (equal_of f c d ≡ true) → (c ≡ d) ⊎ (equal_of g c d ≡ true)
-    go c d (inl i) = inl i
-    go c d (inr k) = inr (same c d ∙ k)
 
 -- equalities of one step after another
 pub classes_chain : (f g : Facts) (P Q : ℕ → ℕ → Type 0) → AreClasses f P → AreClasses g (λ c d. (equal_of f c d ≡ true) ⊎ Q c d) → AreClasses g (λ c d. P c d ⊎ Q c d)
 classes_chain f g P Q h k = classes_same g (λ c d. (equal_of f c d ≡ true) ⊎ Q c d) k (λ c d. P c d ⊎ Q c d) there back
   where
     there : (c d : ℕ) → (equal_of f c d ≡ true) ⊎ Q c d → IsLinked (λ c d. P c d ⊎ Q c d) c d
-    there c d (inl m) = linked_bind P (λ c d. P c d ⊎ Q c d) (λ c d p. stated (inl p)) c d (h.there c d m)
-    there c d (inr m) = stated (inr m)
+    there c d = from_either (λ m. linked_bind P (λ c d. P c d ⊎ Q c d) (λ c d p. stated (inl p)) c d (h.there c d m)) (λ m. stated (inr m))
 
     back : (c d : ℕ) → P c d ⊎ Q c d → IsLinked (λ c d. (equal_of f c d ≡ true) ⊎ Q c d) c d
-    back c d (inl m) = go (h.back c d (stated m))
-      where
-        go : (c ≡ d) ⊎ (equal_of f c d ≡ true) → IsLinked (λ c d. (equal_of f c d ≡ true) ⊎ Q c d) c d
-        go (inl e) = linked_same (λ c d. (equal_of f c d ≡ true) ⊎ Q c d) c d e
-        go (inr k) = stated (inl k)
-    back c d (inr m) = stated (inr m)
+    back c d = from_either (λ m. from_either (linked_same (λ c d. (equal_of f c d ≡ true) ⊎ Q c d) c d) (λ k. stated (inl k)) (h.back c d (stated m))) (λ m. stated (inr m))
 
 -- nothing more is equal
 pub classes_kept : (f : Facts) (Q : ℕ → ℕ → Type 0) → IsOwn f → ((c d : ℕ) → Q c d → ⊥) → AreClasses f (λ c d. (equal_of f c d ≡ true) ⊎ Q c d)
-classes_kept f Q own none = classes_same f (λ c d. equal_of f c d ≡ true) (classes_start f own) (λ c d. (equal_of f c d ≡ true) ⊎ Q c d) (λ c d k. stated (inl k)) back
-  where
-    back : (c d : ℕ) → (equal_of f c d ≡ true) ⊎ Q c d → IsLinked (λ c d. equal_of f c d ≡ true) c d
-    back c d (inl k) = stated k
-    back c d (inr k) = absurd (none c d k)
+classes_kept f Q own none = classes_same f (λ c d. equal_of f c d ≡ true) (classes_start f own) (λ c d. (equal_of f c d ≡ true) ⊎ Q c d) (λ c d k. stated (inl k)) (λ c d. from_either stated (λ k. absurd (none c d k)))
 
 -- two columns more are equal
 pub classes_with : (f g : Facts) (a b : ℕ) (Q : ℕ → ℕ → Type 0) → IsOwn f → a < 128 → b < 128 → IsMerged f a b g → ((c d : ℕ) → Q c d → (c ≡ a) × (d ≡ b)) → ((c d : ℕ) → (c ≡ a) × (d ≡ b) → Q c d)
     → AreClasses g (λ c d. (equal_of f c d ≡ true) ⊎ Q c d)
 classes_with f g a b Q own l m merged only just =
     classes_same g (λ c d. (equal_of f c d ≡ true) ⊎ ((c ≡ a) × (d ≡ b))) (classes_merged f (λ c d. equal_of f c d ≡ true) (classes_start f own) a b g l m merged)
-    (λ c d. (equal_of f c d ≡ true) ⊎ Q c d) there back
-  where
-    there : (c d : ℕ) → (equal_of f c d ≡ true) ⊎ ((c ≡ a) × (d ≡ b)) → IsLinked (λ c d. (equal_of f c d ≡ true) ⊎ Q c d) c d
-    there c d (inl k) = stated (inl k)
-    there c d (inr k) = stated (inr (just c d k))
-
-    back : (c d : ℕ) → (equal_of f c d ≡ true) ⊎ Q c d → IsLinked (λ c d. (equal_of f c d ≡ true) ⊎ ((c ≡ a) × (d ≡ b))) c d
-    back c d (inl k) = stated (inl k)
-    back c d (inr k) = stated (inr (only c d k))
+    (λ c d. (equal_of f c d ≡ true) ⊎ Q c d) (λ c d k. stated (either_second (just c d) k)) (λ c d k. stated (either_second (only c d) k))

@@ -13,6 +13,7 @@ use Rattle.fd_closure.specs.declared.facts.Facts.{Facts}
 use Rattle.fd_closure.specs.Known.{equal_of, IsMerged}
 use Rattle.logical_dag.specs.Facts.{stated, SomeConjunct, Equates, IsColumnAndLiteral, AreColumns, SetsConstant, SetsEqual}
 use Rattle.logical_dag.specs.Known.{IsOwn, AreBelow, AreClasses, AreConstants}
+use Rattle.logical_dag.proofs.Either.{either_second, regrouped, ungrouped}
 use Rattle.logical_dag.proofs.Constants.{constants_same, constants_chain, constants_with}
 use Rattle.logical_dag.proofs.Classes.{classes_same, classes_moved, classes_chain, classes_kept, classes_with}
 
@@ -110,20 +111,8 @@ pub both_constants : (into f g : Facts) (a b : Expr) → AreConstants f (λ c. (
     → AreConstants g (λ c. (has into.constants c ≡ true) ⊎ SetsConstant (Pair And a b) c)
 both_constants into f g a b h k =
     constants_same g (λ c. ((has into.constants c ≡ true) ⊎ SetsConstant a c) ⊎ SetsConstant b c) (λ c. (has into.constants c ≡ true) ⊎ SetsConstant (Pair And a b) c)
-    (constants_chain f g (λ c. (has into.constants c ≡ true) ⊎ SetsConstant a c) (SetsConstant b) h k) there back
-  where
-    there : (c : ℕ) → ((has into.constants c ≡ true) ⊎ SetsConstant a c) ⊎ SetsConstant b c → (has into.constants c ≡ true) ⊎ SetsConstant (Pair And a b) c
-    there c (inl (inl m)) = inl m
-    there c (inl (inr m)) = inr (rw (both_sides (Equates (IsColumnAndLiteral c)) a b) (inl m))
-    there c (inr m) = inr (rw (both_sides (Equates (IsColumnAndLiteral c)) a b) (inr m))
-
-    split : (c : ℕ) → SetsConstant a c ⊎ SetsConstant b c → ((has into.constants c ≡ true) ⊎ SetsConstant a c) ⊎ SetsConstant b c
-    split c (inl m) = inl (inr m)
-    split c (inr m) = inr m
-
-    back : (c : ℕ) → (has into.constants c ≡ true) ⊎ SetsConstant (Pair And a b) c → ((has into.constants c ≡ true) ⊎ SetsConstant a c) ⊎ SetsConstant b c
-    back c (inl m) = inl (inl m)
-    back c (inr m) = split c (rw (both_sides (Equates (IsColumnAndLiteral c)) a b) at m)
+    (constants_chain f g (λ c. (has into.constants c ≡ true) ⊎ SetsConstant a c) (SetsConstant b) h k)
+    (λ c m. either_second (λ n. rw (both_sides (Equates (IsColumnAndLiteral c)) a b) n) (regrouped m)) (λ c m. ungrouped (either_second (λ n. rw (both_sides (Equates (IsColumnAndLiteral c)) a b) at n) m))
 
 -- and the equalities
 pub both_classes : (into f g : Facts) (a b : Expr) → AreClasses f (λ c d. (equal_of into c d ≡ true) ⊎ SetsEqual a c d) → AreClasses g (λ c d. (equal_of f c d ≡ true) ⊎ SetsEqual b c d)
@@ -131,20 +120,7 @@ pub both_classes : (into f g : Facts) (a b : Expr) → AreClasses f (λ c d. (eq
 both_classes into f g a b h k =
     classes_same g (λ c d. ((equal_of into c d ≡ true) ⊎ SetsEqual a c d) ⊎ SetsEqual b c d)
     (classes_chain f g (λ c d. (equal_of into c d ≡ true) ⊎ SetsEqual a c d) (SetsEqual b) h k) (λ c d. (equal_of into c d ≡ true) ⊎ SetsEqual (Pair And a b) c d)
-    (λ c d m. stated (there c d m)) (λ c d m. stated (back c d m))
-  where
-    there : (c d : ℕ) → ((equal_of into c d ≡ true) ⊎ SetsEqual a c d) ⊎ SetsEqual b c d → (equal_of into c d ≡ true) ⊎ SetsEqual (Pair And a b) c d
-    there c d (inl (inl m)) = inl m
-    there c d (inl (inr m)) = inr (rw (both_sides (Equates (AreColumns c d)) a b) (inl m))
-    there c d (inr m) = inr (rw (both_sides (Equates (AreColumns c d)) a b) (inr m))
-
-    split : (c d : ℕ) → SetsEqual a c d ⊎ SetsEqual b c d → ((equal_of into c d ≡ true) ⊎ SetsEqual a c d) ⊎ SetsEqual b c d
-    split c d (inl m) = inl (inr m)
-    split c d (inr m) = inr m
-
-    back : (c d : ℕ) → (equal_of into c d ≡ true) ⊎ SetsEqual (Pair And a b) c d → ((equal_of into c d ≡ true) ⊎ SetsEqual a c d) ⊎ SetsEqual b c d
-    back c d (inl m) = inl (inl m)
-    back c d (inr m) = split c d (rw (both_sides (Equates (AreColumns c d)) a b) at m)
+    (λ c d m. stated (either_second (λ n. rw (both_sides (Equates (AreColumns c d)) a b) n) (regrouped m))) (λ c d m. stated (ungrouped (either_second (λ n. rw (both_sides (Equates (AreColumns c d)) a b) at n) m)))
 
 -- the same where the sides are lent
 module _ (e : Expr) (op : PairOp) (a b left right : Expr) (is : e ≡ Pair op a b) (i : left ≡ a) (j : right ≡ b) where
@@ -165,32 +141,17 @@ module _ (e : Expr) (op : PairOp) (a b left right : Expr) (is : e ≡ Pair op a 
       all = is ∙ ap (λ (o : PairOp). Pair o a b) o ∙ ap (λ (x : Expr). Pair And x b) (sym i) ∙ ap (λ (y : Expr). Pair And left y) (sym j)
 
   pub equation_constants : op ≡ Eq → (into g : Facts) → AreConstants g (λ c. (has into.constants c ≡ true) ⊎ IsColumnAndLiteral c left right) → AreConstants g (λ c. (has into.constants c ≡ true) ⊎ SetsConstant e c)
-  equation_constants o into g h = constants_same g (λ c. (has into.constants c ≡ true) ⊎ IsColumnAndLiteral c left right) (λ c. (has into.constants c ≡ true) ⊎ SetsConstant e c) h there back
+  equation_constants o into g h = constants_same g (λ c. (has into.constants c ≡ true) ⊎ IsColumnAndLiteral c left right) (λ c. (has into.constants c ≡ true) ⊎ SetsConstant e c) h
+      (λ c. either_second (λ m. rw (same c) m)) (λ c. either_second (λ m. rw (same c) at m))
     where
       same : (c : ℕ) → SetsConstant e c ≡ IsColumnAndLiteral c left right
       same c = rw (is, o, one_equation (IsColumnAndLiteral c) a b, i, j) refl
-
-      there : (c : ℕ) → (has into.constants c ≡ true) ⊎ IsColumnAndLiteral c left right → (has into.constants c ≡ true) ⊎ SetsConstant e c
-      there c (inl m) = inl m
-      there c (inr m) = inr (rw (same c) m)
-
-      back : (c : ℕ) → (has into.constants c ≡ true) ⊎ SetsConstant e c → (has into.constants c ≡ true) ⊎ IsColumnAndLiteral c left right
-      back c (inl m) = inl m
-      back c (inr m) = inr (rw (same c) at m)
 
   pub equation_classes : op ≡ Eq → (into g : Facts) → (AreBelow (λ c d. AreColumns c d left right) → AreClasses g (λ c d. (equal_of into c d ≡ true) ⊎ AreColumns c d left right))
       → AreBelow (SetsEqual e) → AreClasses g (λ c d. (equal_of into c d ≡ true) ⊎ SetsEqual e c d)
   equation_classes o into g h below =
       classes_same g (λ c d. (equal_of into c d ≡ true) ⊎ AreColumns c d left right) (h (λ c d m. below c d (rw (same c d) m))) (λ c d. (equal_of into c d ≡ true) ⊎ SetsEqual e c d)
-      (λ c d m. stated (there c d m)) (λ c d m. stated (back c d m))
+      (λ c d m. stated (either_second (λ n. rw (same c d) n) m)) (λ c d m. stated (either_second (λ n. rw (same c d) at n) m))
     where
       same : (c d : ℕ) → SetsEqual e c d ≡ AreColumns c d left right
       same c d = rw (is, o, one_equation (AreColumns c d) a b, i, j) refl
-
-      there : (c d : ℕ) → (equal_of into c d ≡ true) ⊎ AreColumns c d left right → (equal_of into c d ≡ true) ⊎ SetsEqual e c d
-      there c d (inl m) = inl m
-      there c d (inr m) = inr (rw (same c d) m)
-
-      back : (c d : ℕ) → (equal_of into c d ≡ true) ⊎ SetsEqual e c d → (equal_of into c d ≡ true) ⊎ AreColumns c d left right
-      back c d (inl m) = inl m
-      back c d (inr m) = inr (rw (same c d) at m)

@@ -8,6 +8,7 @@ use Rattle.col_sets.specs.Tests.{from_test, to_test}
 use Rattle.fd_closure.specs.declared.facts.Facts.{Facts}
 use Rattle.fd_closure.specs.Known.{by_of}
 use Rattle.logical_dag.specs.Known.{IsDependency, AreDependencies}
+use Rattle.logical_dag.proofs.Either.{from_either, either_first}
 
 -- dependencies that are said otherwise
 pub dependencies_same : (f : Facts) (D E : List ℕ → ℕ → Type 0) → AreDependencies f D → ((s : List ℕ) (c : ℕ) → D s c → E s c) → ((s : List ℕ) (c : ℕ) → E s c → D s c) → AreDependencies f E
@@ -31,18 +32,13 @@ pub dependencies_kept : (f : Facts) (D : List ℕ → ℕ → Type 0) → ((s : 
 dependencies_kept f D none = record { stated = λ c l m. inl (l, m, refl); all = all }
   where
     all : (s : List ℕ) (c : ℕ) → IsDependency f s c ⊎ D s c → (has f.determined c ≡ true) × ((d : ℕ) → has s d ≡ has (by_of f c) d)
-    all s c (inl m) = (m.1, λ d. ap (λ (r : List ℕ). has r d) m.2)
-    all s c (inr m) = absurd (none s c m)
+    all s c = from_either (λ m. (m.1, λ d. ap (λ (r : List ℕ). has r d) m.2)) (λ m. absurd (none s c m))
 
 -- dependencies of one step after another
 pub dependencies_chain : (f g : Facts) (D E : List ℕ → ℕ → Type 0) → ((s : List ℕ) (c : ℕ) → D s c → c < 128) → AreDependencies f D → AreDependencies g (λ s c. IsDependency f s c ⊎ E s c)
     → AreDependencies g (λ s c. D s c ⊎ E s c)
-dependencies_chain f g D E low h k = record { stated = λ c l m. there (by_of g c) c (k.stated c l m); all = all }
+dependencies_chain f g D E low h k = record { stated = λ c l m. either_first (λ n. subst (λ (r : List ℕ). D r c) (sym n.2) (h.stated c n.0 n.1)) (k.stated c l m); all = all }
   where
-    there : (s : List ℕ) (c : ℕ) → IsDependency f s c ⊎ E s c → D s c ⊎ E s c
-    there s c (inl m) = inl (subst (λ (r : List ℕ). D r c) (sym m.2) (h.stated c m.0 m.1))
-    there s c (inr m) = inr m
-
     all : (s : List ℕ) (c : ℕ) → D s c ⊎ E s c → (has g.determined c ≡ true) × ((d : ℕ) → has s d ≡ has (by_of g c) d)
     all s c (inl m) =
         let p = h.all s c m in

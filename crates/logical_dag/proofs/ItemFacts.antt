@@ -16,6 +16,7 @@ use Rattle.fd_closure.specs.Known.{equal_of}
 use Rattle.logical_dag.specs.Facts.{IsLinked, stated, turned, chained, is_column, AreSameItem}
 use Rattle.logical_dag.specs.Known.{IsOwn, AreClasses, IsItem, IsItemEquated}
 use Rattle.logical_trees.specs.ColumnLemmas.{has_at}
+use Rattle.logical_dag.proofs.Either.{either_second}
 use Rattle.logical_dag.proofs.Classes.{linked_same, classes_same, classes_merged, classes_kept}
 
 -- an item is one plain column at most
@@ -151,15 +152,10 @@ module _ (into : Facts) (items : List Expr) (cols : List ℕ) (own : IsOwn into)
               chained (stated (inl (inr (k, m.0, b, (l, m.4), p, m.5, u, subst (λ (a : ℕ). IsItem items m.0 a) (sym b_is) m.7)))) (stated (inr (refl, i)))
 
   pub items_done : (n : ℕ) (f : Facts) → length items ≤ n → AreClasses f (Items n) → AreClasses f (λ c d. (equal_of into c d ≡ true) ⊎ AreSameItem items cols c d)
-  items_done n f l h = classes_same f (Items n) h (λ c d. (equal_of into c d ≡ true) ⊎ AreSameItem items cols c d) (λ c d m. stated (there c d m)) (λ c d m. stated (back c d m))
+  items_done n f l h = classes_same f (Items n) h (λ c d. (equal_of into c d ≡ true) ⊎ AreSameItem items cols c d) (λ c d m. stated (either_second (λ k. (k.0, k.1, k.2, k.4, k.5, k.6, k.7)) m)) (λ c d m. stated (either_second (back c d) m))
     where
-      there : (c d : ℕ) → Items n c d → (equal_of into c d ≡ true) ⊎ AreSameItem items cols c d
-      there c d (inl m) = inl m
-      there c d (inr m) = inr (m.0, m.1, m.2, m.4, m.5, m.6, m.7)
-
-      back : (c d : ℕ) → (equal_of into c d ≡ true) ⊎ AreSameItem items cols c d → Items n c d
-      back c d (inl m) = inl m
-      back c d (inr m) =
+      back : (c d : ℕ) → AreSameItem items cols c d → SameItemsBelow items cols n c d
+      back c d m =
           let i = item_within items m.0 m.2 m.5 in
           let j = item_within items m.1 m.2 m.6 in
-          inr (m.0, m.1, m.2, (omega arith, omega arith), m.3, m.4, m.5, m.6)
+          (m.0, m.1, m.2, (omega arith, omega arith), m.3, m.4, m.5, m.6)

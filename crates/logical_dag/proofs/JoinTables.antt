@@ -6,13 +6,9 @@ use Rattle.fd_closure.specs.declared.facts.Facts.{Facts}
 use Rattle.fd_closure.specs.Known.{by_of, equal_of}
 use Rattle.logical_dag.specs.Facts.{IsLinked, stated, key_name}
 use Rattle.logical_dag.specs.Known.{IsDependency, AreConstants, AreDependencies, AreClasses, CarriedEqualities, AreJoined}
+use Rattle.logical_dag.proofs.Either.{from_either, either_both}
 use Rattle.logical_dag.proofs.Classes.{linked_bind, linked_same, classes_same}
 use Rattle.logical_dag.proofs.KnownColumns.{key_source, key_named}
-
--- one of two, each said otherwise
-pub either_both : {A B C D : Type 0} → (A → C) → (B → D) → A ⊎ B → C ⊎ D
-either_both h k (inl m) = inl (h m)
-either_both h k (inr m) = inr (k m)
 
 module _ (on : List (ℕ × ℕ)) (left right f : Facts) (joined : AreJoined on left right f) where
   pub joined_constants : (C K : ℕ → Type 0) → AreConstants left C → AreConstants right K → AreConstants f (λ c. C c ⊎ K c)
@@ -56,15 +52,9 @@ module _ (on : List (ℕ × ℕ)) (left right f : Facts) (joined : AreJoined on 
         there c d (inr m) = stated (inr (inr m))
 
         back : (c d : ℕ) → Either c d → IsLinked ByFacts c d
-        back c d (inl m) = go (h.back c d (stated m))
-          where
-            go : (c ≡ d) ⊎ (equal_of left c d ≡ true) → IsLinked ByFacts c d
-            go (inl e) = linked_same ByFacts c d e
-            go (inr n) = stated (inl (inl n))
-        back c d (inr (inl m)) = go (k.back c d (stated m)) (within c d m)
-          where
-            go : (c ≡ d) ⊎ (equal_of right c d ≡ true) → (c ≡ d) ⊎ ((has right.columns c ≡ true) × (has right.columns d ≡ true)) → IsLinked ByFacts c d
-            go (inl e) w = linked_same ByFacts c d e
-            go (inr n) (inl e) = linked_same ByFacts c d e
-            go (inr n) (inr w) = stated (inl (inr (c, d, n, key_named right.columns c w.0, key_named right.columns d w.1)))
+        back c d (inl m) = from_either (linked_same ByFacts c d) (λ n. stated (inl (inl n))) (h.back c d (stated m))
+        back c d (inr (inl m)) =
+            from_either (linked_same ByFacts c d)
+            (λ n. from_either (linked_same ByFacts c d) (λ w. stated (inl (inr (c, d, n, key_named right.columns c w.0, key_named right.columns d w.1)))) (within c d m))
+            (k.back c d (stated m))
         back c d (inr (inr m)) = stated (inr m)

@@ -19,6 +19,7 @@ use Rattle.logical_trees.specs.Tree.{group_columns}
 use Rattle.logical_trees.specs.Formed.{IsGroup, IsOver}
 use Rattle.logical_dag.specs.Facts.{IsLinked, stated, Renamed, BothRenamed, DependencyRenamed, is_column, is_literal, ref_name, item_name, key_name, AreSameItem, IsAggregate}
 use Rattle.logical_dag.specs.Known.{name_of, IsNaming, IsDependency, AreClasses, AreDependencies, AreConstants, CarriedConstants, CarriedDependencies, CarriedEqualities, AreCarried, IsItem, AreRenamed, AreProjected, AreGrouped, AreJoined}
+use Rattle.logical_dag.proofs.Either.{from_either, either_second}
 use Rattle.logical_dag.proofs.Classes.{linked_same, classes_same, classes_moved, classes_chain}
 use Rattle.logical_trees.specs.ColumnLemmas.{has_at, rank_at}
 use Rattle.logical_dag.proofs.KnownColumns.{ref_source, key_source}
@@ -149,56 +150,30 @@ pub grouped_none : (args : GroupArgs) (from f g : Facts) → count args.keys ≡
     → AreConstants g (λ c. (has f.constants c ≡ true) ⊎ Any (λ a. a.id ≡ c) args.aggs) → AreGrouped args from g
 grouped_none args from f g none h i constants = record {
   columns = ap (λ (k : Facts). k.columns) i ∙ h.columns;
-  constants = constants_same g (λ c. Renamed (key_name args.keys) (λ b. has from.constants b ≡ true) c ⊎ Any (λ a. a.id ≡ c) args.aggs) _ (constants_chain f g _ _ h.constants constants) there back;
-  dependencies = dependencies_same g (DependencyRenamed (key_name args.keys) (IsDependency from)) _ (dependencies_moved f g _ (ap (λ (k : Facts). k.determined) i) (ap (λ (k : Facts). k.by) i) h.dependencies) (λ s c m. inl m) depends;
+  constants = constants_same g (λ c. Renamed (key_name args.keys) (λ b. has from.constants b ≡ true) c ⊎ Any (λ a. a.id ≡ c) args.aggs) _ (constants_chain f g _ _ h.constants constants) (λ c. either_second (λ m. (empty, m))) (λ c. either_second (λ m. m.1));
+  dependencies = dependencies_same g (DependencyRenamed (key_name args.keys) (IsDependency from)) _ (dependencies_moved f g _ (ap (λ (k : Facts). k.determined) i) (ap (λ (k : Facts). k.by) i) h.dependencies) (λ s c m. inl m) (λ s c. from_either (λ m. m) (λ m. absurd (m.0 empty)));
   classes = classes_moved f g _ (ap (λ (k : Facts). k.class) i) h.classes;
 }
   where
     empty : args.keys ≡ []
     empty = nil_from_length args.keys none
 
-    there : (c : ℕ) → Renamed (key_name args.keys) (λ b. has from.constants b ≡ true) c ⊎ Any (λ a. a.id ≡ c) args.aggs → Renamed (key_name args.keys) (λ b. has from.constants b ≡ true) c ⊎ ((args.keys ≡ []) × IsAggregate args c)
-    there c (inl m) = inl m
-    there c (inr m) = inr (empty, m)
-
-    back : (c : ℕ) → Renamed (key_name args.keys) (λ b. has from.constants b ≡ true) c ⊎ ((args.keys ≡ []) × IsAggregate args c) → Renamed (key_name args.keys) (λ b. has from.constants b ≡ true) c ⊎ Any (λ a. a.id ≡ c) args.aggs
-    back c (inl m) = inl m
-    back c (inr m) = inr m.1
-
-    depends : (s : List ℕ) (c : ℕ) → DependencyRenamed (key_name args.keys) (IsDependency from) s c ⊎ ((args.keys ≢ []) × (s ≡ args.keys) × IsAggregate args c) → DependencyRenamed (key_name args.keys) (IsDependency from) s c
-    depends s c (inl m) = m
-    depends s c (inr m) = absurd (m.0 empty)
-
 -- the facts of a group with one
 pub grouped_some : (args : GroupArgs) (from f g : Facts) → (count args.keys ≡ 0 → ⊥) → AreRenamed from (key_name args.keys) (group_columns args) f → g ≡ record f { determined = g.determined; by = g.by }
     → AreDependencies g (λ s c. IsDependency f s c ⊎ ((s ≡ args.keys) × Any (λ a. a.id ≡ c) args.aggs)) → IsGroup args → AreGrouped args from g
 grouped_some args from f g some h i depends group = record {
   columns = ap (λ (k : Facts). k.columns) i ∙ h.columns;
-  constants = constants_same g (Renamed (key_name args.keys) (λ b. has from.constants b ≡ true)) _ (constants_moved f g _ (ap (λ (k : Facts). k.constants) i) h.constants) (λ c m. inl m) constant;
+  constants = constants_same g (Renamed (key_name args.keys) (λ b. has from.constants b ≡ true)) _ (constants_moved f g _ (ap (λ (k : Facts). k.constants) i) h.constants) (λ c m. inl m) (λ c. from_either (λ m. m) (λ m. absurd (keyed m.0)));
   dependencies = dependencies_same g _ _
-      (dependencies_chain f g (DependencyRenamed (key_name args.keys) (IsDependency from)) (λ s c. (s ≡ args.keys) × IsAggregate args c) low h.dependencies depends) forth back;
+      (dependencies_chain f g (DependencyRenamed (key_name args.keys) (IsDependency from)) (λ s c. (s ≡ args.keys) × IsAggregate args c) low h.dependencies depends) (λ s c. either_second (λ m. (keyed, m.0, m.1))) (λ s c. either_second (λ m. (m.1, m.2)));
   classes = classes_moved f g _ (ap (λ (k : Facts). k.class) i) h.classes;
 }
   where
     keyed : args.keys ≢ []
     keyed e = some (ap count e)
 
-    constant : (c : ℕ) → Renamed (key_name args.keys) (λ b. has from.constants b ≡ true) c ⊎ ((args.keys ≡ []) × IsAggregate args c) → Renamed (key_name args.keys) (λ b. has from.constants b ≡ true) c
-    constant c (inl m) = m
-    constant c (inr m) = absurd (keyed m.0)
-
     low : (s : List ℕ) (c : ℕ) → DependencyRenamed (key_name args.keys) (IsDependency from) s c → c < 128
     low s c m = (key_naming args.keys group.key_set).below m.1 c m.3
-
-    forth : (s : List ℕ) (c : ℕ) → DependencyRenamed (key_name args.keys) (IsDependency from) s c ⊎ ((s ≡ args.keys) × IsAggregate args c)
-        → DependencyRenamed (key_name args.keys) (IsDependency from) s c ⊎ ((args.keys ≢ []) × (s ≡ args.keys) × IsAggregate args c)
-    forth s c (inl m) = inl m
-    forth s c (inr m) = inr (keyed, m.0, m.1)
-
-    back : (s : List ℕ) (c : ℕ) → DependencyRenamed (key_name args.keys) (IsDependency from) s c ⊎ ((args.keys ≢ []) × (s ≡ args.keys) × IsAggregate args c)
-        → DependencyRenamed (key_name args.keys) (IsDependency from) s c ⊎ ((s ≡ args.keys) × IsAggregate args c)
-    back s c (inl m) = inl m
-    back s c (inr m) = inr (m.1, m.2)
 
 -- the facts of a join: the constants and dependencies of both sides, then the equalities, then its pairs
 pub joined_all : (on : List (ℕ × ℕ)) (left right f g h : Facts) (cols constants : List ℕ) → cols ≡ union left.columns right.columns → constants ≡ union left.constants right.constants

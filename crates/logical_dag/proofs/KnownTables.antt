@@ -24,7 +24,8 @@ use Rattle.logical_dag.proofs.Classes.{classes_same, classes_chain, classes_link
 use Rattle.logical_trees.specs.ColumnLemmas.{columns_set}
 use Rattle.logical_dag.proofs.KnownColumns.{AreAbout, known_about, equal_over}
 use Rattle.logical_dag.proofs.Links.{linked_within, equal_itself, equal_turned, equal_chained}
-use Rattle.logical_dag.proofs.JoinTables.{either_both, joined_constants, joined_dependencies, joined_classes}
+use Rattle.logical_dag.proofs.Either.{either_first, either_second}
+use Rattle.logical_dag.proofs.JoinTables.{joined_constants, joined_dependencies, joined_classes}
 use Rattle.logical_dag.proofs.Constants.{constants_same, constants_chain}
 use Rattle.logical_dag.proofs.Dependencies.{dependencies_same, dependencies_moved}
 use Rattle.logical_dag.proofs.KnownSteps.{key_low, item_low, ref_low}
@@ -46,11 +47,7 @@ module _ (shared : List Facts) (t : Expression) (f : Facts) (results : List (Lis
   equal_there a b m = let p = equal_parts f a b m in (h.equal a b p.0 p.1).0 m
 
   equal_back : (a b : ℕ) → AreEqual shared t a b → (a ≡ b) ⊎ (equal_of f a b ≡ true)
-  equal_back a b m = go (about.equal a b m)
-    where
-      go : (a ≡ b) ⊎ ((has (columns_of t) a ≡ true) × (has (columns_of t) b ≡ true)) → (a ≡ b) ⊎ (equal_of f a b ≡ true)
-      go (inl e) = inl e
-      go (inr k) = inr ((h.equal a b (low a k.0) (low b k.1)).1 m)
+  equal_back a b m = either_second (λ k. (h.equal a b (low a k.0) (low b k.1)).1 m) (about.equal a b m)
 
   -- the facts have the equal columns of the table
   pub facts_classes : AreClasses f (AreEqual shared t)
@@ -100,7 +97,7 @@ module _ (shared : List Facts) (t : Expression) (f : Facts) (results : List (Lis
 
     -- with what is stated beside them
     constants_renamed : (g : Facts) (C : ℕ → Type 0) → AreConstants g (λ c. Renamed name (λ b. has f.constants b ≡ true) c ⊎ C c) → AreConstants g (λ c. Renamed name (IsConstant shared t) c ⊎ C c)
-    constants_renamed g C k = constants_same g _ _ k (λ c. either_both (constant_there c) (λ m. m)) (λ c. either_both (constant_back c) (λ m. m))
+    constants_renamed g C k = constants_same g _ _ k (λ c. either_first (constant_there c)) (λ c. either_first (constant_back c))
 
     depends_renamed : (g : Facts) → AreDependencies g (DependencyRenamed name (IsDependency f)) → AreDependencies g (DependencyRenamed name (Determines shared t))
     depends_renamed g k = dependencies_same g _ _ k depend_there depend_back
@@ -133,14 +130,14 @@ module _ (shared : List Facts) (t : Expression) (f : Facts) (results : List (Lis
         all = depends.all;
         equal = classes_linked g _
             (classes_same g _ r.classes (λ c d. BothRenamed (item_name items cols) (AreEqual shared t) c d ⊎ AreSameItem items cols c d)
-            (λ c d m. stated (either_both (both_there (item_name items cols) named c d) (λ n. n) m)) (λ c d m. stated (either_both (both_back (item_name items cols) named c d) (λ n. n) m)));
+            (λ c d m. stated (either_first (both_there (item_name items cols) named c d) m)) (λ c d m. stated (either_first (both_back (item_name items cols) named c d) m)));
       }
 
   -- the facts of a grouping
   pub group_facts : (args : GroupArgs) (g : Facts) → IsGroup args → AreGrouped args f g → AreFactsOf shared (one (Group args) t) g
   group_facts args g group r =
       let named = key_low args.keys group.key_set in
-      let depends = dependencies_same g _ (Determines shared (one (Group args) t)) r.dependencies (λ s c. either_both (depend_there (key_name args.keys) named s c) (λ m. m)) (λ s c. either_both (depend_back (key_name args.keys) named s c) (λ m. m)) in
+      let depends = dependencies_same g _ (Determines shared (one (Group args) t)) r.dependencies (λ s c. either_first (depend_there (key_name args.keys) named s c)) (λ s c. either_first (depend_back (key_name args.keys) named s c)) in
       record {
         columns = r.columns;
         constants = constants_renamed (key_name args.keys) named g _ r.constants;

@@ -16,7 +16,8 @@ use Rattle.logical_dag.specs.Gathered.{IsOverColumns, IsApartFrom, AreAdded}
 use Rattle.logical_dag.proofs.Classes.{classes_start, classes_same}
 use Rattle.logical_dag.proofs.Constants.{constants_same}
 use Rattle.logical_dag.proofs.Dependencies.{dependencies_same}
-use Rattle.logical_dag.proofs.JoinTables.{either_both, joined_constants, joined_dependencies, joined_classes}
+use Rattle.logical_dag.proofs.Either.{from_either, either_second}
+use Rattle.logical_dag.proofs.JoinTables.{joined_constants, joined_dependencies, joined_classes}
 use Rattle.logical_dag.proofs.KnownColumns.{known_about}
 use Rattle.logical_dag.proofs.KnownTables.{facts_classes, determined_low, equal_within}
 
@@ -24,18 +25,14 @@ module _ (shared : List Facts) (results : List (List ℕ)) (t : Expression) (for
     (joined : AreJoined [] into facts f) where
   -- of one leaf
   alone : {A B : Type 0} → A ⊎ B → A ⊎ (B ⊎ ⊥)
-  alone = either_both (λ m. m) inl
+  alone = either_second inl
 
   -- and no other
   single : {A B : Type 0} → A ⊎ (B ⊎ ⊥) → A ⊎ B
-  single (inl m) = inl m
-  single (inr (inl m)) = inr m
-  single (inr (inr m)) = absurd m
+  single = either_second (from_either (λ m. m) (λ m. absurd m))
 
-  no_pair : {A B : Type 0} {c d : ℕ} → A ⊎ (B ⊎ Contains {X = ℕ × ℕ} [] (c, d)) → A ⊎ B
-  no_pair (inl m) = inl m
-  no_pair (inr (inl m)) = inr m
-  no_pair {c = c} {d = d} (inr (inr m)) = absurd (in_list [] (c, d) m)
+  no_pair : {A B : Type 0} (c d : ℕ) → A ⊎ (B ⊎ Contains {X = ℕ × ℕ} [] (c, d)) → A ⊎ B
+  no_pair c d = either_second (from_either (λ m. m) (λ m. absurd (in_list [] (c, d) m)))
 
   -- the facts of the leaf are added
   pub one_added : AreAdded shared into (t ∷ []) f
@@ -48,7 +45,7 @@ module _ (shared : List Facts) (results : List (List ℕ)) (t : Expression) (for
         (λ s c. alone) (λ s c. single);
     classes = classes_same f _
         (joined_classes [] into facts f joined (λ c d. equal_of into c d ≡ true) (AreEqual shared t) (classes_start into own) (facts_classes shared t facts results formed known) (equal_within shared t facts results formed known))
-        (λ c d. (equal_of into c d ≡ true) ⊎ SomeLeaf (λ u. AreEqual shared u c d) (t ∷ [])) (λ c d m. stated (alone (no_pair m))) (λ c d m. stated (either_both (λ n. n) inl (single m)));
+        (λ c d. (equal_of into c d ≡ true) ⊎ SomeLeaf (λ u. AreEqual shared u c d) (t ∷ [])) (λ c d m. stated (alone (no_pair c d m))) (λ c d m. stated (either_second inl (single m)));
   }
 
 -- no column has a dependency by what there was and by the leaf

@@ -5,6 +5,7 @@ pub mod Classes
 pub mod Conjuncts
 pub mod Constants
 pub mod Dependencies
+pub mod Either
 pub mod FirstFacts
 pub mod Gathering
 pub mod ItemFacts

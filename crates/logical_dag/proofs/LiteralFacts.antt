@@ -6,6 +6,7 @@ use Rattle.scope_expr.specs.declared.expr.Expr.{Expr}
 use Rattle.fd_closure.specs.declared.facts.Facts.{Facts}
 use Rattle.logical_dag.specs.Facts.{is_literal}
 use Rattle.logical_dag.specs.Known.{AreConstants}
+use Rattle.logical_dag.proofs.Either.{either_second}
 use Rattle.logical_dag.proofs.Constants.{constants_same}
 use Rattle.logical_dag.proofs.OneBelow.{OneBelow, constants_more}
 
@@ -19,15 +20,9 @@ pub literal_step : (into f g : Facts) (items : List Expr) (cols : List ℕ) (n :
     → AreConstants f (λ c. (has into.constants c ≡ true) ⊎ OneBelow (IsLiteralAt items cols) n c) → AreConstants g (λ c. (has into.constants c ≡ true) ⊎ OneBelow (IsLiteralAt items cols) (n + 1) c)
 literal_step into f g items cols n item column at is step h =
     constants_more into (IsLiteralAt items cols) f g n h
-    (constants_same g (λ c. (has f.constants c ≡ true) ⊎ ((is_literal item ≡ true) × (column ≡ Some c))) (λ c. (has f.constants c ≡ true) ⊎ IsLiteralAt items cols n c) step there back)
-  where
-    there : (c : ℕ) → (has f.constants c ≡ true) ⊎ ((is_literal item ≡ true) × (column ≡ Some c)) → (has f.constants c ≡ true) ⊎ IsLiteralAt items cols n c
-    there c (inl m) = inl m
-    there c (inr m) = inr (sym is ∙ m.1, subst (λ (o : Option Expr). IsSomeAnd o (λ e. is_literal e ≡ true)) (sym at) m.0)
-
-    back : (c : ℕ) → (has f.constants c ≡ true) ⊎ IsLiteralAt items cols n c → (has f.constants c ≡ true) ⊎ ((is_literal item ≡ true) × (column ≡ Some c))
-    back c (inl m) = inl m
-    back c (inr m) = inr (subst (λ (o : Option Expr). IsSomeAnd o (λ e. is_literal e ≡ true)) at m.1, is ∙ m.0)
+    (constants_same g (λ c. (has f.constants c ≡ true) ⊎ ((is_literal item ≡ true) × (column ≡ Some c))) (λ c. (has f.constants c ≡ true) ⊎ IsLiteralAt items cols n c) step
+    (λ c. either_second (λ m. (sym is ∙ m.1, subst (λ (o : Option Expr). IsSomeAnd o (λ e. is_literal e ≡ true)) (sym at) m.0)))
+    (λ c. either_second (λ m. (subst (λ (o : Option Expr). IsSomeAnd o (λ e. is_literal e ≡ true)) at m.1, is ∙ m.0))))
 
 -- a literal item stands in the list
 literal_within : (items : List Expr) (i : ℕ) → IsSomeAnd (slice_get items i) (λ e. is_literal e ≡ true) → i < length items

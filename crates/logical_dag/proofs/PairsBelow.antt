@@ -9,6 +9,7 @@ use Rattle.fd_closure.specs.Known.{equal_of, IsMerged}
 use Rattle.logical_dag.specs.Facts.{stated}
 use Rattle.logical_dag.specs.Known.{IsOwn, AreClasses}
 use Rattle.list_lemmas.specs.Reading.{one_read}
+use Rattle.logical_dag.proofs.Either.{either_second}
 use Rattle.logical_dag.proofs.Classes.{classes_same, classes_merged, classes_kept}
 
 -- one pair of the first n
@@ -49,12 +50,7 @@ module _ (into : Facts) (on : List (ℕ × ℕ)) (own : IsOwn into) where
           go false t = let k : m.0 < n + 1 = m.1 in let other : m.0 ≢ n = grind (arith, nat_tests) in inl (inr (m.0, omega arith, m.2, m.3))
 
   pub pairs_done : (f : Facts) (n : ℕ) → length on ≤ n → AreClasses f (λ c d. (equal_of into c d ≡ true) ⊎ PairBelow on n c d) → AreClasses f (λ c d. (equal_of into c d ≡ true) ⊎ Contains on (c, d))
-  pairs_done f n l h = classes_same f (λ c d. (equal_of into c d ≡ true) ⊎ PairBelow on n c d) h (λ c d. (equal_of into c d ≡ true) ⊎ Contains on (c, d)) (λ c d m. stated (there c d m)) (λ c d m. stated (back c d m))
+  pairs_done f n l h = classes_same f (λ c d. (equal_of into c d ≡ true) ⊎ PairBelow on n c d) h (λ c d. (equal_of into c d ≡ true) ⊎ Contains on (c, d)) (λ c d m. stated (either_second (λ p. (p.0, p.2, p.3)) m)) (λ c d m. stated (either_second (back c d) m))
     where
-      there : (c d : ℕ) → (equal_of into c d ≡ true) ⊎ PairBelow on n c d → (equal_of into c d ≡ true) ⊎ Contains on (c, d)
-      there c d (inl m) = inl m
-      there c d (inr m) = inr (m.0, m.2, m.3)
-
-      back : (c d : ℕ) → (equal_of into c d ≡ true) ⊎ Contains on (c, d) → (equal_of into c d ≡ true) ⊎ PairBelow on n c d
-      back c d (inl m) = inl m
-      back c d (inr m) = let k : m.0 < length on = m.1 in inr (m.0, omega arith, m.1, m.2)
+      back : (c d : ℕ) → Contains on (c, d) → PairBelow on n c d
+      back c d m = let k : m.0 < length on = m.1 in (m.0, omega arith, m.1, m.2)
