@@ -3,8 +3,8 @@ use Rattle.std.proofs.Common.{◌≡◌, ◌≢◌, ℕ, zero, suc, ◌+◌, ◌
 use Rattle.std.specs.List.{filter, range_with_len}
 use Rattle.std.proofs.lemmas.Bool.Decides.{nat_tests}
 use Rattle.col_sets.specs.Sets.{has, columns_where, union, rank, IsColumnSet}
-use Rattle.col_sets.specs.Columns.{inside, has-filter, columns_where-set, has_below, has_union}
-use Rattle.col_sets.specs.Tests.{both, or_left, or_right, to_test}
+use Rattle.col_sets.specs.Columns.{inside, has-filter, columns_where-set, sets_same, has_below, has_union, union_has}
+use Rattle.col_sets.specs.Tests.{both, or_left, or_right, to_test, same_tests}
 use Rattle.logical_trees.specs.declared.logic_op.LogicOp.TheVariants.{Ref, Project, Group, Process, Reduce, Combine, Partial, Finish}
 use Rattle.logical_trees.specs.Tree.{Expression, leaf, one, two, columns_of}
 use Rattle.logical_trees.specs.Formed.{IsFormed}
@@ -86,3 +86,43 @@ pub into_union : (results : List (List ℕ)) (t u : Expression) → IsFormed res
     → has (union (columns_of t) (columns_of u)) c ≡ true
 into_union results t u h k c (inl m) = has_union _ _ c (has_below _ (columns_set results t h) c m) (inl m)
 into_union results t u h k c (inr m) = has_union _ _ c (has_below _ (columns_set results u k) c m) (inr m)
+
+-- the union does not see which side is first
+pub union_turned : (s t : List ℕ) → union s t ≡ union t s
+union_turned s t = sets_same (union s t) (union t s) (columns_where-set _) (columns_where-set _) (λ c l. same_tests _ _ (turn s t c l) (turn t s c l))
+  where
+    turn : (s t : List ℕ) (c : ℕ) → c < 128 → has (union s t) c ≡ true → has (union t s) c ≡ true
+    turn s t c l h = go (union_has s t c h)
+      where
+        go : (has s c ≡ true) ⊎ (has t c ≡ true) → has (union t s) c ≡ true
+        go (inl k) = has_union t s c l (inr k)
+        go (inr k) = has_union t s c l (inl k)
+
+-- nor how they are grouped
+pub union_grouped : (s t u : List ℕ) → IsColumnSet s → IsColumnSet t → IsColumnSet u → union (union s t) u ≡ union s (union t u)
+union_grouped s t u p q r = sets_same (union (union s t) u) (union s (union t u)) (columns_where-set _) (columns_where-set _) (λ c l. same_tests _ _ (there c) (back c))
+  where
+    low : (c : ℕ) → has s c ≡ true → has (union s (union t u)) c ≡ true
+    low c k = has_union s (union t u) c (has_below s p c k) (inl k)
+
+    there : (c : ℕ) → has (union (union s t) u) c ≡ true → has (union s (union t u)) c ≡ true
+    there c h = go (union_has (union s t) u c h)
+      where
+        inner : (has s c ≡ true) ⊎ (has t c ≡ true) → has (union s (union t u)) c ≡ true
+        inner (inl k) = low c k
+        inner (inr k) = let l = has_below t q c k in has_union s (union t u) c l (inr (has_union t u c l (inl k)))
+
+        go : (has (union s t) c ≡ true) ⊎ (has u c ≡ true) → has (union s (union t u)) c ≡ true
+        go (inl k) = inner (union_has s t c k)
+        go (inr k) = let l = has_below u r c k in has_union s (union t u) c l (inr (has_union t u c l (inr k)))
+
+    back : (c : ℕ) → has (union s (union t u)) c ≡ true → has (union (union s t) u) c ≡ true
+    back c h = go (union_has s (union t u) c h)
+      where
+        inner : (has t c ≡ true) ⊎ (has u c ≡ true) → has (union (union s t) u) c ≡ true
+        inner (inl k) = let l = has_below t q c k in has_union (union s t) u c l (inl (has_union s t c l (inr k)))
+        inner (inr k) = let l = has_below u r c k in has_union (union s t) u c l (inr k)
+
+        go : (has s c ≡ true) ⊎ (has (union t u) c ≡ true) → has (union (union s t) u) c ≡ true
+        go (inl k) = let l = has_below s p c k in has_union (union s t) u c l (inl (has_union s t c l (inl k)))
+        go (inr k) = inner (union_has t u c k)

@@ -13,9 +13,13 @@ pub mod LeafLemmas
 pub mod Meaning
 pub mod MeaningLemmas
 pub mod OneBagLemmas
+pub mod PairLemmas
 pub mod PartLemmas
 pub mod RowLemmas
 pub mod Rows
+pub mod RowsOver
+pub mod RowsOverLemmas
+pub mod SameLemmas
 pub mod ShapeLemmas
 pub mod SplitLemmas
 pub mod Tree

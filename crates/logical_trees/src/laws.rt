@@ -1,5 +1,6 @@
 // What bags that stand for expressions keep, whatever the operators and the rows that they draw on.
 ghost use Rattle.logical_trees.specs.Laws.{IsOrderFree, HasOneBag, HasSomeBag, KeepsBelow, KeepsBeside, IsSplitGroupKept, IsSplitTopKept};
+ghost use Rattle.logical_trees.specs.RowsOver.{HasRowsOver};
 
 /// What stands for an expression does so in any order, and exactly one bag stands for a whole one.
 pub fn bag_law()
@@ -18,4 +19,9 @@ pub fn replacement_law()
 pub fn split_law()
     ensures group { IsSplitGroupKept }
     ensures top { IsSplitTopKept }
+{}
+
+/// Each row of a bag that stands for a formed expression has one value for each column, if what comes from outside has.
+pub fn rows_law()
+    ensures { HasRowsOver }
 {}

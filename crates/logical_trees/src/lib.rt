@@ -15,6 +15,6 @@ mod logical;
 pub use agg::Agg;
 pub use args::{CallArgs, GroupArgs, TopArgs};
 pub use columns::{columns_of, group_columns};
-pub use laws::{bag_law, replacement_law, split_law};
+pub use laws::{bag_law, replacement_law, rows_law, split_law};
 pub use logic_op::LogicOp;
 pub use logical::Logical;

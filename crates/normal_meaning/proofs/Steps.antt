@@ -21,48 +21,10 @@ use Rattle.list_lemmas.specs.Bags.{same_permuted, filter_permuted, filters_turne
 use Rattle.logical_trees.specs.GroupLemmas.{grouped_permuted, joined_permuted}
 use Rattle.logical_trees.specs.GroupRowLemmas.{group_row-key}
 use Rattle.logical_trees.specs.RowLemmas.{value_over}
+use Rattle.logical_trees.specs.SameLemmas.{same_itself, same_turned, same_then, same_below, same_beside}
 use Rattle.normal_meaning.specs.Sinking.{each_column, is_keyed, passes, below, goes_to}
 use Rattle.normal_meaning.proofs.Values.{holds_same, holds_and, holds_below}
 use Rattle.normal_meaning.proofs.Lists.{filter_made, made_same, filter_right, filter_left, distinct_passes, filter_within}
-
--- ---- the same bags
-
-pub same_itself : (t : Expression) → SameBags t t
-same_itself t = record { columns = refl; there = λ ops from B h. h; back = λ ops from B h. h }
-
-pub same_then : (t u v : Expression) → SameBags t u → SameBags u v → SameBags t v
-same_then t u v h k = record {
-  columns = h.columns ∙ k.columns;
-  there = λ ops from B s. k.there ops from B (h.there ops from B s);
-  back = λ ops from B s. h.back ops from B (k.back ops from B s);
-}
-
-pub same_below : (op : LogicOp) (t u : Expression) → SameBags t u → SameBags (one op t) (one op u)
-same_below op t u h = record {
-  columns = ap (one_columns op) h.columns;
-  there = λ ops from B s. (s.0, h.there ops from s.0 s.1, subst (λ (cols : List ℕ). GivesOne ops op cols s.0 B) h.columns s.2);
-  back = λ ops from B s. (s.0, h.back ops from s.0 s.1, subst (λ (cols : List ℕ). GivesOne ops op cols s.0 B) (sym h.columns) s.2);
-}
-
-pub same_beside : (op : LogicOp) (t u v w : Expression) → SameBags t u → SameBags v w → SameBags (two op t v) (two op u w)
-same_beside op t u v w h k = record {
-  columns = ap₂ (two_columns op) h.columns k.columns;
-  there = λ ops from C s. (
-    s.0,
-    s.1,
-    h.there ops from s.0 s.2,
-    k.there ops from s.1 s.3,
-    subst (λ (left : List ℕ). GivesTwo ops op left (columns_of w) s.0 s.1 C) h.columns (subst (λ (right : List ℕ). GivesTwo ops op (columns_of t) right s.0 s.1 C) k.columns s.4),
-  );
-  back = λ ops from C s. (
-    s.0,
-    s.1,
-    h.back ops from s.0 s.2,
-    k.back ops from s.1 s.3,
-    subst (λ (left : List ℕ). GivesTwo ops op left (columns_of v) s.0 s.1 C) (sym h.columns)
-        (subst (λ (right : List ℕ). GivesTwo ops op (columns_of u) right s.0 s.1 C) (sym k.columns) s.4),
-  );
-}
 
 -- ---- over one child
 

@@ -16,7 +16,8 @@ use Rattle.logical_trees.specs.Formed.{IsFormed, IsOneFormed, IsTwoFormed, IsOve
 use Rattle.logical_trees.specs.ColumnLemmas.{columns_set}
 use Rattle.normal_meaning.specs.Sinking.{conjuncts, each_column, is_keyed, passes, below, goes_to, can_sink, sink, sink_all, normal}
 use Rattle.normal_meaning.proofs.Values.{each_passes, each_gives, over_both, over_below}
-use Rattle.normal_meaning.proofs.Steps.{same_itself, same_then, same_below, same_beside, filters_same, filters_joined, passed_same, left_same, right_same}
+use Rattle.normal_meaning.proofs.Steps.{filters_same, filters_joined, passed_same, left_same, right_same}
+use Rattle.logical_trees.specs.SameLemmas.{same_itself, same_then, same_below, same_beside}
 
 -- ---- columns
 

@@ -18,7 +18,8 @@ use Rattle.rules_steps.specs.Steps.{Pairs, IsDealt, Rule, commute, associate, sp
 use Rattle.rules_steps.proofs.Kept.{step_same, step_formed}
 use Rattle.rules_places.specs.Space.{is_join, is_block}
 use Rattle.rules_places.proofs.Reaching.{reach_step}
-use Rattle.rules_places.proofs.Grown.{AreLeaves, of_block, no_block, rule_joins, step_only, leaf_step, dealt_up, dealt_moved, HasPairs, IsIn, own_dealt, left_all, right_all, left_just, right_just}
+use Rattle.rules_places.proofs.Grown.{AreLeaves, of_block, no_block, rule_joins, step_only, leaf_step, dealt_up, dealt_moved}
+use Rattle.logical_trees.specs.PairLemmas.{HasPairs, IsIn, own_dealt, left_all, right_all, left_just, right_just}
 use Rattle.rules_space.specs.Tree as shape
 use Rattle.rules_space.specs.declared.kind.Kind.TheVariants as kind
 use Rattle.rules_space.specs.Place.{Script, place, linked}
@@ -237,7 +238,7 @@ module _ (results : List (List ℕ)) (S : Script) where
 
   pub record IsOwn (base : ℕ) (t : Expression) : Type 0 where
     pub shaped : IsShaped base t t (shape_of base t)
-    pub knit : (pairs : List (ℕ × ℕ)) → HasPairs results pairs t → IsIn results pairs t → IsKnit pairs (numbered_leaves base t) t (shape_of base t)
+    pub knit : (pairs : List (ℕ × ℕ)) → HasPairs pairs t → IsIn pairs t → IsKnit pairs (numbered_leaves base t) t (shape_of base t)
 
   own_two : (base : ℕ) (op : LogicOp) (t u : Expression) → is_join op ≡ false → IsOwn base t → IsOwn (base + size t) u
       → shape.two (kind.Node (base + (size t + size u))) (shape_of base t) (shape_of (base + size t) u) ≡ shape_of base (two op t u)
@@ -250,7 +251,7 @@ module _ (results : List (List ℕ)) (S : Script) where
   own_join : (base : ℕ) (on : Pairs) (t u : Expression) → IsFormed results (two (Join on) t u) → IsOwn base t → IsOwn (base + size t) u → IsOwn base (two (Join on) t u)
   own_join base on t u f h k = record { shaped = of_join base on t u (knit (block_pairs (two (Join on) t u)) (λ a b m. m) (λ a b x y m. m)); knit = knit }
     where
-      knit : (pairs : List (ℕ × ℕ)) → HasPairs results pairs (two (Join on) t u) → IsIn results pairs (two (Join on) t u) → IsKnit pairs (numbered_leaves base (two (Join on) t u)) (two (Join on) t u) (shape_of base (two (Join on) t u))
+      knit : (pairs : List (ℕ × ℕ)) → HasPairs pairs (two (Join on) t u) → IsIn pairs (two (Join on) t u) → IsKnit pairs (numbered_leaves base (two (Join on) t u)) (two (Join on) t u) (shape_of base (two (Join on) t u))
       knit pairs all just =
           both on (h.knit pairs (left_all results on t u f pairs all just) (left_just results on t u f pairs all just)) (k.knit pairs (right_all results on t u f pairs all just) (right_just results on t u f pairs all just))
           (IsPermutation-refl _) (own_dealt results on t u f pairs all just)
