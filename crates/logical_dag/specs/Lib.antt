@@ -1,5 +1,7 @@
 pub mod BlockFacts
 pub mod Bounds
+pub mod DagMeaning
+pub mod DagMeaningLemmas
 pub mod Facts
 pub mod Found
 pub mod Gathered

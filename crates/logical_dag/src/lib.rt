@@ -12,6 +12,7 @@ mod finding;
 mod known;
 mod known_at;
 mod known_nodes;
+mod laws;
 mod naming;
 mod place;
 mod stated;
@@ -20,8 +21,9 @@ pub use dag::{Dag, Output, ScanDecl};
 pub use dag_facts::DagFacts;
 pub use known::{facts_law, facts_of};
 pub use known_at::facts_at;
+pub use laws::meaning_law;
 pub use logical_trees::{
     Agg, CallArgs, GroupArgs, LogicOp, Logical, TopArgs, bag_law, columns_of, group_columns,
-    replacement_law, split_law,
+    replacement_law, rows_law, split_law,
 };
 pub use place::{Place, PlacePart};

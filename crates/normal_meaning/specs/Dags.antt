@@ -10,7 +10,7 @@ use Rattle.script_meaning.specs.Dag.{ScriptDag, dag_of}
 use Rattle.script_meaning.specs.Laws.{Gives, meaning, FitsColumns, AreOuterTold}
 use Rattle.script_meaning.specs.Placed.{IsPlaced}
 use Rattle.script_meaning.specs.Written.{AreBindable}
-use Rattle.script_meaning.specs.OneMeaning.{AreSameOutputs}
+use Rattle.logical_dag.specs.DagMeaning.{AreSameOutputs}
 use Rattle.normal_meaning.specs.Sinking.{normal}
 
 -- each tree in its normal form; scans, streams and orders stay

@@ -14,11 +14,12 @@ use Rattle.logical_trees.specs.Tree.{columns_of}
 use Rattle.logical_trees.specs.Rows.{Bag}
 use Rattle.logical_trees.specs.Meaning.{Sources, bag_at, StandsFor}
 use Rattle.column_ranks.specs.RowLemmas.{items_moved}
-use Rattle.script_meaning.specs.Meaning.{places, Table, in_order_opt}
+use Rattle.script_meaning.specs.Meaning.{places, Table}
 use Rattle.script_meaning.specs.Part.{Part, number, cols_at}
 use Rattle.script_meaning.specs.Bound.{mentions, parts_of}
 use Rattle.script_meaning.specs.Dag.{part_at, outs_of, reached, kept_of, place_in, scans_of_all, trees_from, column_order, dag_of}
-use Rattle.script_meaning.specs.Laws.{AllStand, Writes, sources, table_at, written_at, results_of, GivesMeaning}
+use Rattle.logical_dag.specs.DagMeaning.{in_order_opt, AllStand, Writes, drawn}
+use Rattle.script_meaning.specs.Laws.{table_at, written_at, results_of, GivesMeaning}
 use Rattle.script_meaning.proofs.Shaped.{get_left, get_right}
 use Rattle.script_meaning.proofs.Tied.{Reads, Tied, ranks}
 use Rattle.script_meaning.proofs.Env.{AllTied, all_tied, start_tied}
@@ -111,7 +112,7 @@ gives_meaning ops input script fits told = (
     rows_of k = (table_at done k).rows
 
     from : Sources
-    from = sources input (dag_of script) (map rows_of kept)
+    from = drawn (map input (dag_of script).scans) (map rows_of kept)
 
     tied : AllTied ops input rows_of env done
     tied = all_tied ops input rows_of (mentions [] script) [] [] [] script (start_tied ops input rows_of) (λ k l. refl) told

@@ -1,37 +1,18 @@
 -- What the Dag of a script gives, and that it is what the script means.
-use Rattle.std.specs.Prelude.{◌≡◌, ◌≤◌, ◌+◌, ℕ, if◌then◌else◌, List, [], ◌∷◌, ◌++◌, map, flat_map, length, Option, None, slice_get, IsPermutation}
-use Rattle.col_sets.specs.declared.dir.Dir.{Dir}
+use Rattle.std.specs.Prelude.{◌≡◌, ◌≤◌, ◌+◌, ℕ, if◌then◌else◌, List, [], ◌∷◌, ◌++◌, map, flat_map, length, None, slice_get, IsPermutation}
 use Rattle.user_ops.specs.Told.{Operators, combines_at}
 use Rattle.logical_dag.specs.declared.dag.ScanDecl.{ScanDecl}
-use Rattle.logical_trees.specs.Tree.{Expression, columns_of}
 use Rattle.logical_trees.specs.declared.args.CallArgs.{CallArgs}
 use Rattle.logical_trees.specs.Rows.{Bag, agree_on, combined}
-use Rattle.logical_trees.specs.Meaning.{Sources, StandsFor}
+use Rattle.logical_dag.specs.DagMeaning.{in_order_opt, TreesGive}
 use Rattle.script_meaning.specs.Script.{Call, Side, Beside, inners, outer, Command, select, Statement}
-use Rattle.script_meaning.specs.Meaning.{Table, or_no_table, source_rows, keeps_left, keeps_right, nulls, outer_bag, result, results, places, in_order_opt}
+use Rattle.script_meaning.specs.Meaning.{Table, or_no_table, source_rows, keeps_left, keeps_right, nulls, outer_bag, result, results, places}
 use Rattle.script_meaning.specs.Bound.{parts_of}
 use Rattle.script_meaning.specs.Dag.{part_at, ScriptDag, dag_of, outs_of}
 
--- the bags stand for the trees, one for each
-abbrev pub AllStand : Operators → Sources → List Expression → List Bag → Type 0
-AllStand ops from [] [] = Unit {0}
-AllStand ops from (t ∷ trees) (B ∷ bags) = StandsFor ops from t B × AllStand ops from trees bags
-AllStand ops from trees bags = ⊥
-
--- a bag stands for the tree of each output, and these are its rows, in the output's order if it has one
-abbrev pub Writes : Operators → Sources → List (Option (List (ℕ × Dir))) → List Expression → List Bag → Type 0
-Writes ops from [] [] [] = Unit {0}
-Writes ops from (o ∷ orders) (t ∷ trees) (W ∷ rows) =
-    ((B : Bag) × StandsFor ops from t B × (in_order_opt o (columns_of t) B ≡ W)) × Writes ops from orders trees rows
-Writes ops from orders trees rows = ⊥
-
--- the Dag gives these rows to its outputs: there are bags of its shared trees, over which they are
-abbrev pub sources : (ScanDecl → Bag) → ScriptDag → List Bag → Sources
-sources input d shared = record { scans = map input d.scans; shared = shared }
-
+-- the Dag gives these rows to its outputs, where its scans have those
 abbrev pub Gives : Operators → (ScanDecl → Bag) → ScriptDag → List Bag → Type 0
-Gives ops input d rows =
-    (shared : List Bag) × AllStand ops (sources input d shared) d.shared shared × Writes ops (sources input d shared) d.orders d.outputs rows
+Gives ops input d rows = TreesGive ops (map input d.scans) d.shared d.orders d.outputs rows
 
 -- the results of a script's statements, and what its OUTPUTs are to write
 abbrev pub table_at : List Table → ℕ → Table

@@ -177,8 +177,3 @@ result ops input earlier done (output source stream) = result_at done (input_at 
 abbrev pub results : Operators → (ScanDecl → Bag) → List Statement → List Table → List Statement → List Table
 results ops input earlier done [] = done
 results ops input earlier done (s ∷ rest) = results ops input (earlier ++ s ∷ []) (done ++ result ops input earlier done s.command ∷ []) rest
-
--- the rows that an OUTPUT is to write: in order where its ORDER BY has effect, else in any order
-abbrev pub in_order_opt : Option (List (ℕ × Dir)) → List ℕ → Bag → Bag
-in_order_opt None cols rows = rows
-in_order_opt (Some order) cols rows = in_order cols order rows

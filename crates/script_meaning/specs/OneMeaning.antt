@@ -1,24 +1,14 @@
 -- A Dag gives one result: whatever bags stand for its trees, the rows are the same.
-use Rattle.std.specs.Prelude.{◌≡◌, ℕ, List, [], ◌∷◌, Option, Some, None, IsPermutation}
-use Rattle.col_sets.specs.declared.dir.Dir.{Dir}
+use Rattle.std.specs.Prelude.{ℕ, List, []}
 use Rattle.user_ops.specs.Told.{Operators}
 use Rattle.logical_dag.specs.declared.dag.ScanDecl.{ScanDecl}
 use Rattle.logical_trees.specs.Rows.{Bag}
+use Rattle.logical_dag.specs.DagMeaning.{AreSameOutputs}
 use Rattle.script_meaning.specs.Script.{Statement}
 use Rattle.script_meaning.specs.Dag.{ScriptDag, dag_of}
 use Rattle.script_meaning.specs.Placed.{IsPlaced}
 use Rattle.script_meaning.specs.Laws.{Gives, meaning, FitsColumns, AreOuterTold}
 use Rattle.script_meaning.specs.Written.{AreBindable}
-
--- the rows of an output with an order are one list, those of another one bag
-abbrev pub AreSameRows : Option (List (ℕ × Dir)) → Bag → Bag → Type 0
-AreSameRows None A B = IsPermutation A B
-AreSameRows (Some order) A B = A ≡ B
-
-abbrev pub AreSameOutputs : List (Option (List (ℕ × Dir))) → List Bag → List Bag → Type 0
-AreSameOutputs [] [] [] = Unit {0}
-AreSameOutputs (o ∷ orders) (A ∷ rows) (B ∷ others) = AreSameRows o A B × AreSameOutputs orders rows others
-AreSameOutputs orders rows others = ⊥
 
 -- what a Dag that binding can give gives is one
 abbrev pub GivesOne : Type 0

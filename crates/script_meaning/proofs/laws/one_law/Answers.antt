@@ -1,5 +1,4 @@
-use Rattle.script_meaning.proofs.SomeResult.{gives_some}
-use Rattle.script_meaning.proofs.OneResult.{gives_one, gives_meaning_alone}
+use Rattle.script_meaning.proofs.OneResult.{gives_one, gives_some, gives_meaning_alone}
 use Rattle.script_meaning.proofs.laws.one_law.Goals as goal
 
 pub returns-clause-one : goal.returns-clause-one
