@@ -20,6 +20,13 @@ linked_bind P Q h a b (chained {d = c} l m) = chained (linked_bind P Q h a c l) 
 pub linked_same : (P : ℕ → ℕ → Type 0) (a b : ℕ) → a ≡ b → IsLinked P a b
 linked_same P a b e = subst (λ (c : ℕ). IsLinked P a c) e itself
 
+-- where nothing is stated, a column is linked to itself alone
+pub linked_none : (P : ℕ → ℕ → Type 0) → ((a b : ℕ) → P a b → ⊥) → (a b : ℕ) → IsLinked P a b → a ≡ b
+linked_none P none a b (stated p) = absurd (none a b p)
+linked_none P none a b itself = refl
+linked_none P none a b (turned l) = sym (linked_none P none b a l)
+linked_none P none a b (chained {d = c} l m) = linked_none P none a c l ∙ linked_none P none c b m
+
 module _ (f : Facts) where
   pub equal_turned : (a b : ℕ) → equal_of f a b ≡ true → equal_of f b a ≡ true
   equal_turned a b h =

@@ -18,6 +18,10 @@ either_first h = either_both h (λ m. m)
 pub either_second : {A B C : Type 0} → (B → C) → A ⊎ B → A ⊎ C
 either_second = either_both (λ m. m)
 
+-- the other one gives nothing
+pub either_none : {A : Type 0} → A ⊎ ⊥ → A
+either_none = from_either (λ m. m) (λ m. absurd m)
+
 -- one of three
 pub regrouped : {A B C : Type 0} → (A ⊎ B) ⊎ C → A ⊎ (B ⊎ C)
 regrouped = from_either (either_second inl) (λ m. inr (inr m))

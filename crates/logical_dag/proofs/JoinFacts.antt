@@ -16,7 +16,7 @@ use Rattle.logical_trees.specs.Blocks.{IsAcross, IsJoinOf, alone, both, SomeLeaf
 use Rattle.logical_dag.specs.BlockFacts.{IsInside, AreFactsOfAll}
 use Rattle.logical_trees.specs.JoinLemmas.{IsNoneWithin, some_one, from_some, some_into, join_set, join_columns}
 use Rattle.logical_dag.proofs.Classes.{linked_bind}
-use Rattle.logical_dag.proofs.Links.{linked_within, linked_more, equal_itself, equal_turned, equal_chained}
+use Rattle.logical_dag.proofs.Links.{linked_within, linked_more}
 use Rattle.logical_trees.specs.LeafLemmas.{some_left, some_right, some_either, some_permuted, EachLeaf, each_left, each_right, each_permuted, HasSet, HasColumn, all_columns_set, all_columns_some, some_all_columns, AreApart, apart_left, apart_right, apart_across, apart_permuted}
 
 module _ (pairs : List (ℕ × ℕ)) where
@@ -76,7 +76,7 @@ module _ (pairs : List (ℕ × ℕ)) where
     -- and the other way round, where no pair lies in one leaf
     pub some_join_equal : (leaves : List Expression) (t : Expression) → IsJoinOf pairs leaves t → IsNoneWithin pairs leaves → (c d : ℕ)
         → IsLinked (EqualInSome leaves (columns_of t)) c d → AreEqual shared t c d
-    some_join_equal leaves v (alone t) none = linked_within (EqualInSome (t ∷ []) (columns_of t)) (AreEqual shared t) each (equal_itself shared t) (equal_turned shared t) (equal_chained shared t)
+    some_join_equal leaves v (alone t) none = linked_within (EqualInSome (t ∷ []) (columns_of t)) (AreEqual shared t) each (λ c. itself) (λ c d l. turned l) (λ c d e l m. chained l m)
       where
         each : (a b : ℕ) → EqualInSome (t ∷ []) (columns_of t) a b → AreEqual shared t a b
         each a b (inl m) = some_one (λ u. AreEqual shared u a b) t m

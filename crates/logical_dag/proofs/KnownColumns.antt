@@ -13,10 +13,13 @@ use Rattle.scope_expr.specs.declared.expr.Expr.{Expr, end_of-Expr, more_of-Expr}
 use Rattle.scope_expr.specs.declared.expr.Expr.TheVariants.{Literal, Col, Neg', Not', Pair'}
 use Rattle.fd_closure.specs.declared.facts.Facts.{Facts}
 use Rattle.logical_trees.specs.declared.args.GroupArgs.{GroupArgs}
+use Rattle.logical_trees.specs.declared.logic_op.LogicOp.{LogicOp}
 use Rattle.logical_trees.specs.declared.logic_op.LogicOp.TheVariants.{Ref, Filter, Project, Join, Group, Process, Reduce, Combine, Partial, Finish}
-use Rattle.logical_trees.specs.Tree.{Expression, leaf, one, two, group_columns, columns_of}
-use Rattle.logical_trees.specs.Formed.{IsGroup, IsOver, IsFormed}
-use Rattle.logical_dag.specs.Facts.{IsLinked, stated, itself, turned, chained, SomeConjunct, Equates, IsColumnAndLiteral, AreColumns, SetsConstant, SetsEqual, is_column, ref_name, item_name, key_name, Renamed, BothRenamed, DependencyRenamed, IsAggregate, AreSameItem, result_columns, IsConstant, Determines, AreEqual}
+use Rattle.logical_trees.specs.Tree.{Expression, leaf, one, two, one_columns, group_columns, columns_of}
+use Rattle.logical_trees.specs.Formed.{IsGroup, IsOver, IsFormed, IsOneFormed}
+use Rattle.logical_dag.proofs.Either.{from_either, either_both}
+use Rattle.logical_dag.proofs.Classes.{linked_none}
+use Rattle.logical_dag.specs.Facts.{IsLinked, stated, itself, turned, chained, SomeConjunct, Equates, IsColumnAndLiteral, AreColumns, SetsConstant, SetsEqual, is_column, ref_name, item_name, key_name, Renamed, BothRenamed, DependencyRenamed, IsAggregate, result_columns, name_above, MakesConstant, MakesDependent, MakesEqual, IsConstant, Determines, IsStatedEqual, AreEqual}
 use Rattle.logical_trees.specs.ColumnLemmas.{has_at, into_union}
 use Rattle.logical_trees.specs.GroupRowLemmas.{key_column, agg_column}
 
@@ -135,80 +138,58 @@ aggregate_column args c group h =
 pub name_column : (args : GroupArgs) (b c : ℕ) → IsGroup args → key_name args.keys b ≡ Some c → has (group_columns args) c ≡ true
 name_column args b c group h = let k = key_source args.keys b c h in key_column args group c (subst (λ (i : ℕ). has args.keys i ≡ true) k.1 k.0)
 
-module _ (cols : List ℕ) where
-  -- facts that are renamed speak of new columns
-  pub renamed_about : (name : ℕ → Option ℕ) (C : ℕ → Type 0) (D : List ℕ → ℕ → Type 0) (E : ℕ → ℕ → Type 0) → ((b c : ℕ) → name b ≡ Some c → has cols c ≡ true)
-      → AreAbout (Renamed name C) (DependencyRenamed name D) (IsLinked (BothRenamed name E)) cols
-  renamed_about name C D E image = record {
-    constants = λ c h. image h.0 c h.2;
-    determined = λ s c h. image h.1 c h.3;
-    by = λ s c d h k. let r = (h.4.just d).0 k in image r.0 d r.2;
-    equal = linked_about (BothRenamed name E) cols (λ c d h. inr (image h.0 c h.3, image h.1 d h.4));
-  }
+-- names above a node are of its columns
+above_image : (cols : List ℕ) (op : LogicOp) → IsOneFormed cols op → (b c : ℕ) → has cols b ≡ true → name_above op b ≡ Some c → has (one_columns op cols) c ≡ true
+above_image cols (Project items new) over b c h e = item_image items new b c e
+above_image cols (Group args) over b c h e = name_column args b c over.0 e
+above_image cols (Partial args) over b c h e = name_column args b c over.0 e
+above_image cols (Finish args) over b c h e = name_column args b c over e
+above_image cols (Process call) over b c h e = absurd (cc)
+above_image cols (Reduce call on presort) over b c h e = absurd (cc)
+above_image cols op over b c h e = let same : b ≡ c = cc in subst (λ (i : ℕ). has cols i ≡ true) same h
 
-  nothing_about : AreAbout (λ c. ⊥) (λ s c. ⊥) (λ c d. c ≡ d) cols
-  nothing_about = record { constants = λ c h. absurd h; determined = λ s c h. absurd h; by = λ s c d h. absurd h; equal = λ c d h. inl h }
+-- what it makes constant, dependent and equal are its columns
+makes_constant : (cols : List ℕ) (op : LogicOp) → IsOneFormed cols op → (c : ℕ) → MakesConstant op c → has (one_columns op cols) c ≡ true
+makes_constant cols (Filter e) over c m = constant_over cols e c over m
+makes_constant cols (Project items new) over c m = has_at new m.0 c m.1
+makes_constant cols (Group args) over c m = aggregate_column args c over.0 m.1
+makes_constant cols (Finish args) over c m = aggregate_column args c over m.1
+makes_constant cols op over c m = absurd m
 
--- the facts of a group speak of its columns
-group_about : (args : GroupArgs) → IsGroup args → (C : ℕ → Type 0) (D : List ℕ → ℕ → Type 0) (E : ℕ → ℕ → Type 0)
-    → AreAbout (λ c. Renamed (key_name args.keys) C c ⊎ ((args.keys ≡ []) × IsAggregate args c))
-    (λ s c. DependencyRenamed (key_name args.keys) D s c ⊎ ((args.keys ≢ []) × (s ≡ args.keys) × IsAggregate args c))
-    (IsLinked (BothRenamed (key_name args.keys) E)) (group_columns args)
-group_about args group C D E = record { constants = constants; determined = determined; by = by; equal = of_key.equal }
-  where
-    of_key : AreAbout (Renamed (key_name args.keys) C) (DependencyRenamed (key_name args.keys) D) (IsLinked (BothRenamed (key_name args.keys) E)) (group_columns args)
-    of_key = renamed_about (group_columns args) (key_name args.keys) C D E (λ b c h. name_column args b c group h)
+makes_dependent : (cols : List ℕ) (op : LogicOp) → IsOneFormed cols op → (s : List ℕ) (c : ℕ) → MakesDependent op s c
+    → (has (one_columns op cols) c ≡ true) × ((d : ℕ) → has s d ≡ true → has (one_columns op cols) d ≡ true)
+makes_dependent cols (Group args) over s c m = (aggregate_column args c over.0 m.2, λ d k. key_column args over.0 d (subst (λ (r : List ℕ). has r d ≡ true) m.1 k))
+makes_dependent cols (Finish args) over s c m = (aggregate_column args c over m.2, λ d k. key_column args over d (subst (λ (r : List ℕ). has r d ≡ true) m.1 k))
+makes_dependent cols op over s c m = absurd m
 
-    constants : (c : ℕ) → Renamed (key_name args.keys) C c ⊎ ((args.keys ≡ []) × IsAggregate args c) → has (group_columns args) c ≡ true
-    constants c (inl h) = of_key.constants c h
-    constants c (inr h) = aggregate_column args c group h.1
-
-    determined : (s : List ℕ) (c : ℕ) → DependencyRenamed (key_name args.keys) D s c ⊎ ((args.keys ≢ []) × (s ≡ args.keys) × IsAggregate args c) → has (group_columns args) c ≡ true
-    determined s c (inl h) = of_key.determined s c h
-    determined s c (inr h) = aggregate_column args c group h.2
-
-    by : (s : List ℕ) (c d : ℕ) → DependencyRenamed (key_name args.keys) D s c ⊎ ((args.keys ≢ []) × (s ≡ args.keys) × IsAggregate args c) → has s d ≡ true → has (group_columns args) d ≡ true
-    by s c d (inl h) k = of_key.by s c d h k
-    by s c d (inr h) k = key_column args group d (subst (λ (r : List ℕ). has r d ≡ true) h.1 k)
+makes_equal : (cols : List ℕ) (op : LogicOp) → IsOneFormed cols op → (c d : ℕ) → MakesEqual op c d → (has (one_columns op cols) c ≡ true) × (has (one_columns op cols) d ≡ true)
+makes_equal cols (Filter e) over c d m = equal_over cols e c d over m
+makes_equal cols (Project items new) over c d m = (has_at new m.0 c m.3, has_at new m.1 d m.4)
+makes_equal cols op over c d m = absurd m
 
 module _ (shared : List Facts) where
   abbrev About : Expression → Type 0
   About t = AreAbout (IsConstant shared t) (Determines shared t) (AreEqual shared t) (columns_of t)
 
-  filter_about : (e : Expr) (t : Expression) → IsOver (columns_of t) e → About t → About (one (Filter e) t)
-  filter_about e t over h = record {
-    constants = constants;
-    determined = h.determined;
-    by = h.by;
-    equal = linked_about (λ a b. AreEqual shared t a b ⊎ SetsEqual e a b) (columns_of t) equal;
+  nothing_about : (cols : List ℕ) → AreAbout (λ c. ⊥) (λ s c. ⊥) (IsLinked (λ c d. ⊥)) cols
+  nothing_about cols = record { constants = λ c h. absurd h; determined = λ s c h. absurd h; by = λ s c d h. absurd h; equal = λ c d h. inl (linked_none _ (λ a b n. n) c d h) }
+
+  -- the facts of a node speak of its columns where those below it speak of theirs
+  above_about : (op : LogicOp) (t : Expression) → IsOneFormed (columns_of t) op → About t → About (one op t)
+  above_about op t over h = record {
+    constants = λ c. from_either (λ m. image m.0 c (h.constants m.0 m.1) m.2) (makes_constant (columns_of t) op over c);
+    determined = λ s c. from_either (λ m. image m.1 c (h.determined m.0 m.1 m.2) m.3) (λ m. (makes_dependent (columns_of t) op over s c m).0);
+    by = λ s c d m k. from_either (λ n. let r = (n.4.just d).0 k in image r.0 d (h.by n.0 n.1 r.0 n.2 r.1) r.2) (λ n. (makes_dependent (columns_of t) op over s c n).1 d k) m;
+    equal = linked_about (IsStatedEqual shared (one op t)) (one_columns op (columns_of t)) (λ c d. from_either (kept c d) (λ m. inr (makes_equal (columns_of t) op over c d m)));
   }
     where
-      constants : (c : ℕ) → IsConstant shared t c ⊎ SetsConstant e c → has (columns_of t) c ≡ true
-      constants c (inl k) = h.constants c k
-      constants c (inr k) = constant_over (columns_of t) e c over k
+      image : (b c : ℕ) → has (columns_of t) b ≡ true → name_above op b ≡ Some c → has (one_columns op (columns_of t)) c ≡ true
+      image = above_image (columns_of t) op over
 
-      equal : (c d : ℕ) → AreEqual shared t c d ⊎ SetsEqual e c d → (c ≡ d) ⊎ ((has (columns_of t) c ≡ true) × (has (columns_of t) d ≡ true))
-      equal c d (inl k) = h.equal c d k
-      equal c d (inr k) = inr (equal_over (columns_of t) e c d over k)
-
-  project_about : (items : List Expr) (cols : List ℕ) (t : Expression) → About (one (Project items cols) t)
-  project_about items cols t = record {
-    constants = constants;
-    determined = plain.determined;
-    by = plain.by;
-    equal = linked_about (λ a b. BothRenamed (item_name items cols) (AreEqual shared t) a b ⊎ AreSameItem items cols a b) cols equal;
-  }
-    where
-      plain : AreAbout (Renamed (item_name items cols) (IsConstant shared t)) (DependencyRenamed (item_name items cols) (Determines shared t)) (IsLinked (BothRenamed (item_name items cols) (AreEqual shared t))) cols
-      plain = renamed_about cols (item_name items cols) (IsConstant shared t) (Determines shared t) (AreEqual shared t) (item_image items cols)
-
-      constants : (c : ℕ) → IsConstant shared (one (Project items cols) t) c → has cols c ≡ true
-      constants c (inl k) = plain.constants c k
-      constants c (inr k) = has_at cols k.0 c k.1
-
-      equal : (c d : ℕ) → BothRenamed (item_name items cols) (AreEqual shared t) c d ⊎ AreSameItem items cols c d → (c ≡ d) ⊎ ((has cols c ≡ true) × (has cols d ≡ true))
-      equal c d (inl k) = inr (item_image items cols k.0 c k.3, item_image items cols k.1 d k.4)
-      equal c d (inr k) = inr (has_at cols k.0 c k.3, has_at cols k.1 d k.4)
+      kept : (c d : ℕ) → BothRenamed (name_above op) (AreEqual shared t) c d → (c ≡ d) ⊎ ((has (one_columns op (columns_of t)) c ≡ true) × (has (one_columns op (columns_of t)) d ≡ true))
+      kept c d m =
+          either_both (λ e. let same : Some c ≡ Some d = sym m.3 ∙ ap (name_above op) e ∙ m.4 in let at : c ≡ d = cc in at)
+          (λ k. (image m.0 c k.0 m.3, image m.1 d k.1 m.4)) (h.equal m.0 m.1 m.2)
 
   module _ (left right cols : List ℕ) (into : (c : ℕ) → (has left c ≡ true) ⊎ (has right c ≡ true) → has cols c ≡ true) (C K : ℕ → Type 0) (D L : List ℕ → ℕ → Type 0) (E F : ℕ → ℕ → Type 0)
       (h : AreAbout C D E left) (k : AreAbout K L F right) where
@@ -241,17 +222,17 @@ module _ (shared : List Facts) where
 
   -- the facts of an expression speak of its columns
   pub known_about : (results : List (List ℕ)) (t : Expression) → IsFormed results t → About t
-  known_about results (leaf (Ref i cols)) h = renamed_about cols (ref_name (result_columns shared i) cols) _ _ _ (ref_image (result_columns shared i) cols)
+  known_about results (leaf (Ref i cols)) h = record {
+    constants = λ c m. image m.0 c m.2;
+    determined = λ s c m. image m.1 c m.3;
+    by = λ s c d m k. let r = (m.4.just d).0 k in image r.0 d r.2;
+    equal = linked_about (IsStatedEqual shared (leaf (Ref i cols))) cols (λ c d m. inr (image m.0 c m.3, image m.1 d m.4));
+  }
+    where
+      image : (b c : ℕ) → ref_name (result_columns shared i) cols b ≡ Some c → has cols c ≡ true
+      image = ref_image (result_columns shared i) cols
   known_about results (leaf op) h = nothing_about (columns_of (leaf op))
-  known_about results (one (Filter e) t) h = filter_about e t h.1 (known_about results t h.0)
-  known_about results (one (Project items cols) t) h = project_about items cols t
-  known_about results (one (Group args) t) h = group_about args h.1.0 (IsConstant shared t) (Determines shared t) (AreEqual shared t)
-  known_about results (one (Finish args) t) h = group_about args h.1 (IsConstant shared t) (Determines shared t) (AreEqual shared t)
-  known_about results (one (Partial args) t) h =
-      renamed_about (group_columns args) (key_name args.keys) (IsConstant shared t) (Determines shared t) (AreEqual shared t) (λ b c k. name_column args b c h.1.0 k)
-  known_about results (one (Process call) t) h = nothing_about call.cols
-  known_about results (one (Reduce call on presort) t) h = nothing_about call.cols
-  known_about results (one op t) h = known_about results t h.0
+  known_about results (one op t) h = above_about op t h.1 (known_about results t h.0)
   known_about results (two (Combine call on before beside) t u) h = nothing_about call.cols
   known_about results (two (Join on) t u) h =
       let left = known_about results t h.0 in

@@ -47,6 +47,7 @@ use Rattle.list_lemmas.specs.Members.{in_list, list_in, in_permuted, in_sorted, 
 use Rattle.logical_trees.specs.RowLemmas.{value_over}
 use Rattle.logical_trees.specs.GroupRowLemmas.{group_row-key}
 use Rattle.logical_trees.specs.ColumnLemmas.{rank_at, columns_set}
+use Rattle.logical_dag.proofs.Either.{from_either}
 use Rattle.logical_dag.proofs.KnownColumns.{AreAbout, known_about, from_conjunct, ref_source, key_source}
 
 -- facts of each kind hold of rows over these columns
@@ -63,14 +64,6 @@ linked_hold P cols rows h c d (turned l) = λ x m. sym (linked_hold P cols rows 
 linked_hold P cols rows h c d (chained {d = e} l k) = λ x m. linked_hold P cols rows h c e l x m ∙ linked_hold P cols rows h e d k x m
 
 module _ {C : ℕ → Type 0} {D : List ℕ → ℕ → Type 0} {E : ℕ → ℕ → Type 0} (cols : List ℕ) (A : Bag) (h : HoldOver C D E cols A) where
-  -- facts of a list hold of one without other rows
-  pub fewer_hold : (B : Bag) → ((x : Row) → Contains B x → Contains A x) → HoldOver C D E cols B
-  fewer_hold B sub = record {
-    constants = λ c p x y m n. h.constants c p x y (sub x m) (sub y n);
-    determined = λ s c p x y m n. h.determined s c p x y (sub x m) (sub y n);
-    equal = λ c d p x m. h.equal c d p x (sub x m);
-  }
-
   -- each named column of a row has the value that the column has in a row of the list
   abbrev pub IsMadeUnder : (ℕ → Option ℕ) → List ℕ → Bag → Type 0
   IsMadeUnder name made B = (y : Row) → Contains B y → (b c : ℕ) → name b ≡ Some c
@@ -98,6 +91,24 @@ module _ {C : ℕ → Type 0} {D : List ℕ → ℕ → Type 0} {E : ℕ → ℕ
           → (b : ℕ) → has r b ≡ true → (n : Option ℕ) → name b ≡ n → IsSome n → value_at cols o b ≡ value_at cols q b
       below s r set x y o q same f g b k None e some = absurd (cc)
       below s r set x y o q same f g b k (Some c) e some = sym (f b c e) ∙ same c ((set.just c).1 (b, k, e)) ∙ g b c e
+
+  -- and beside them what else holds of these rows
+  pub above_hold : (name : ℕ → Option ℕ) (made : List ℕ) (B : Bag) → IsMadeUnder name made B → (K : ℕ → Type 0) (L : List ℕ → ℕ → Type 0) (M : ℕ → ℕ → Type 0) → ((c : ℕ) → K c → OneValue made B c)
+      → ((s : List ℕ) (c : ℕ) → L s c → Depends made B s c) → ((c d : ℕ) → M c d → hold.AreEqual made B c d)
+      → HoldOver (λ c. Renamed name C c ⊎ K c) (λ s c. DependencyRenamed name D s c ⊎ L s c) (IsLinked (λ a b. BothRenamed name E a b ⊎ M a b)) made B
+  above_hold name made B from K L M constants determined equal =
+      let plain = renamed_hold name made B from in
+      record {
+        constants = λ c. from_either (plain.constants c) (constants c);
+        determined = λ s c. from_either (plain.determined s c) (determined s c);
+        equal = linked_hold (λ a b. BothRenamed name E a b ⊎ M a b) made B (λ c d. from_either (λ m. plain.equal c d (stated m)) (equal c d));
+      }
+
+  -- facts of a list hold of one without other rows
+  pub kept_hold : (B : Bag) → ((x : Row) → Contains B x → Contains A x) → (K : ℕ → Type 0) (M : ℕ → ℕ → Type 0) → ((c : ℕ) → K c → OneValue cols B c) → ((c d : ℕ) → M c d → hold.AreEqual cols B c d)
+      → HoldOver (λ c. Renamed Some C c ⊎ K c) (λ s c. DependencyRenamed Some D s c ⊎ ⊥) (IsLinked (λ a b. BothRenamed Some E a b ⊎ M a b)) cols B
+  kept_hold B sub K M constants equal =
+      above_hold Some cols B (λ y m b c e. (y, sub y m, λ b c e. let same : b ≡ c = cc in ap (value_at cols y) (sym same))) K (λ s c. ⊥) M constants (λ s c n. absurd n) equal
 
 -- a predicate that holds has `&&` of predicates that hold
 both_hold : (cols : List ℕ) (row : Row) (s a t b : _) → expr.holds (Pair' And s (more_of-Expr a end_of-Expr) t (more_of-Expr b end_of-Expr)) cols row ≡ true
@@ -148,26 +159,12 @@ set_equal cols e c d x h f =
 module _ (C : ℕ → Type 0) (D : List ℕ → ℕ → Type 0) (E : ℕ → ℕ → Type 0) (cols : List ℕ) (A B : Bag) (h : HoldOver C D E cols A) where
   -- the facts of a filter hold of rows that pass it
   filter_hold : (e : Expr) → IsPermutation (filter (expr.holds e cols) A) B
-      → HoldOver (λ c. C c ⊎ SetsConstant e c) D (IsLinked (λ a b. E a b ⊎ SetsEqual e a b)) cols B
-  filter_hold e p = record {
-    constants = constants;
-    determined = below.determined;
-    equal = linked_hold (λ a b. E a b ⊎ SetsEqual e a b) cols B equal;
-  }
+      → HoldOver (λ c. Renamed Some C c ⊎ SetsConstant e c) (λ s c. DependencyRenamed Some D s c ⊎ ⊥) (IsLinked (λ a b. BothRenamed Some E a b ⊎ SetsEqual e a b)) cols B
+  filter_hold e p =
+      kept_hold cols A h B (λ x m. list_in A x (passed x m).0) (SetsConstant e) (SetsEqual e) (λ c k x y m n. set_constant cols e c x y k (passed x m).1 (passed y n).1) (λ c d k x m. set_equal cols e c d x k (passed x m).1)
     where
       passed : (x : Row) → Contains B x → In x A × (expr.holds e cols x ≡ true)
       passed x m = in_filter (expr.holds e cols) x A (in_permuted (filter (expr.holds e cols) A) B x p m)
-
-      below : HoldOver C D E cols B
-      below = fewer_hold cols A h B (λ x m. list_in A x (passed x m).0)
-
-      constants : (c : ℕ) → C c ⊎ SetsConstant e c → OneValue cols B c
-      constants c (inl k) = below.constants c k
-      constants c (inr k) = λ x y m n. set_constant cols e c x y k (passed x m).1 (passed y n).1
-
-      equal : (c d : ℕ) → E c d ⊎ SetsEqual e c d → hold.AreEqual cols B c d
-      equal c d (inl k) = below.equal c d k
-      equal c d (inr k) = λ x m. set_equal cols e c d x k (passed x m).1
 
   -- the value of an item's column on the row that the items make
   projected_at : (items : List Expr) (made : List ℕ) (i c : ℕ) (e : Expr) (x : Row) → IsColumnSet made → slice_get made i ≡ Some c → slice_get items i ≡ Some e
@@ -195,12 +192,12 @@ module _ (C : ℕ → Type 0) (D : List ℕ → ℕ → Type 0) (E : ℕ → ℕ
   -- the facts of a projection hold of the rows that the items make
   project_hold : (items : List Expr) (made : List ℕ) → IsColumnSet made → IsPermutation (map (projected items cols) A) B
       → HoldOver (λ c. Renamed (item_name items made) C c ⊎ ((i : ℕ) × (slice_get made i ≡ Some c) × IsSomeAnd (slice_get items i) (λ e. is_literal e ≡ true)))
-      (DependencyRenamed (item_name items made) D) (IsLinked (λ a b. BothRenamed (item_name items made) E a b ⊎ AreSameItem items made a b)) made B
-  project_hold items made set p = record {
-    constants = constants;
-    determined = plain.determined;
-    equal = linked_hold (λ a b. BothRenamed (item_name items made) E a b ⊎ AreSameItem items made a b) made B equal;
-  }
+      (λ s c. DependencyRenamed (item_name items made) D s c ⊎ ⊥) (IsLinked (λ a b. BothRenamed (item_name items made) E a b ⊎ AreSameItem items made a b)) made B
+  project_hold items made set p =
+      above_hold cols A h (item_name items made) made B (λ y m b c e.
+      let o = source y m in
+      (o.0, list_in A o.0 o.1, λ b c e. ap (λ r. value_at made r c) o.2 ∙ named o.0 b c e))
+      (λ c. (i : ℕ) × (slice_get made i ≡ Some c) × IsSomeAnd (slice_get items i) (λ e. is_literal e ≡ true)) (λ s c. ⊥) (AreSameItem items made) constants (λ s c n. absurd n) equal
     where
       source : (y : Row) → Contains B y → (x : Row) × In x A × (y ≡ projected items cols x)
       source y m = in_map (projected items cols) A y (in_permuted (map (projected items cols) A) B y p m)
@@ -231,21 +228,14 @@ module _ (C : ℕ → Type 0) (D : List ℕ → ℕ → Type 0) (E : ℕ → ℕ
               let first = position-Some (is_column b) items i (Literal Null) f in
               column_at x i b c k (subst (λ (o : Option Expr). IsSomeAnd o (λ e. is_column b e ≡ true)) (sym (slice_get-get_or items i (Literal Null) first.0)) first.1)
 
-      plain : HoldOver (Renamed (item_name items made) C) (DependencyRenamed (item_name items made) D) (IsLinked (BothRenamed (item_name items made) E)) made B
-      plain = renamed_hold cols A h (item_name items made) made B (λ y m b c e.
-          let o = source y m in
-          (o.0, list_in A o.0 o.1, λ b c e. ap (λ r. value_at made r c) o.2 ∙ named o.0 b c e))
-
-      constants : (c : ℕ) → Renamed (item_name items made) C c ⊎ ((i : ℕ) × (slice_get made i ≡ Some c) × IsSomeAnd (slice_get items i) (λ e. is_literal e ≡ true)) → OneValue made B c
-      constants c (inl k) = plain.constants c k
-      constants c (inr k) = λ x y m n.
+      constants : (c : ℕ) → (i : ℕ) × (slice_get made i ≡ Some c) × IsSomeAnd (slice_get items i) (λ e. is_literal e ≡ true) → OneValue made B c
+      constants c k = λ x y m n.
           let o = source x m in
           let q = source y n in
           ap (λ r. value_at made r c) o.2 ∙ literal_at o.0 q.0 k.0 c k.1 k.2 ∙ sym (ap (λ r. value_at made r c) q.2)
 
-      equal : (c d : ℕ) → BothRenamed (item_name items made) E c d ⊎ AreSameItem items made c d → hold.AreEqual made B c d
-      equal c d (inl k) = plain.equal c d (stated k)
-      equal c d (inr k) = λ y m.
+      equal : (c d : ℕ) → AreSameItem items made c d → hold.AreEqual made B c d
+      equal c d k = λ y m.
           let o = source y m in
           ap (λ r. value_at made r c) o.2 ∙ column_at o.0 k.0 k.2 c k.3 k.5 ∙ sym (column_at o.0 k.1 k.2 d k.4 k.6) ∙ sym (ap (λ r. value_at made r d) o.2)
 
@@ -288,22 +278,20 @@ module _ (args : GroupArgs) (group : IsGroup args) (cols : List ℕ) where
     group_hold : (value_of : Agg → Bag → Value) → IsPermutation (rows_of_keys args cols value_of (group_keys cols args.keys A) A) B
         → HoldOver (λ c. Renamed (key_name args.keys) C c ⊎ ((args.keys ≡ []) × IsAggregate args c))
         (λ s c. DependencyRenamed (key_name args.keys) D s c ⊎ ((args.keys ≢ []) × (s ≡ args.keys) × IsAggregate args c))
-        (IsLinked (BothRenamed (key_name args.keys) E)) (group_columns args) B
-    group_hold value_of p = record { constants = constants; determined = determined; equal = of_key.equal }
+        (IsLinked (λ a b. BothRenamed (key_name args.keys) E a b ⊎ ⊥)) (group_columns args) B
+    group_hold value_of p =
+        above_hold cols A h (key_name args.keys) (group_columns args) B (λ y m b c e.
+        let o = source y m in
+        let r = group_key_from cols args.keys A o.0 o.1 b (key_source args.keys b c e).0 in
+        (r.0, list_in A r.0 r.1, λ b c e. ap (λ r. value_at (group_columns args) r c) (o.2 ∙ ap (group_row args (λ a. value_of a (with_key cols args.keys o.0 A))) r.2) ∙ named_at (λ a. value_of a (with_key cols args.keys o.0 A)) r.0 b c e))
+        (λ c. (args.keys ≡ []) × IsAggregate args c) (λ s c. (args.keys ≢ []) × (s ≡ args.keys) × IsAggregate args c) (λ c d. ⊥) constants determined (λ c d n. absurd n)
       where
         source : (y : Row) → Contains B y → (k : Row) × In k (group_keys cols args.keys A) × (y ≡ key_row value_of k)
         source y m = in_map (key_row value_of) (group_keys cols args.keys A) y
             (in_permuted (rows_of_keys args cols value_of (group_keys cols args.keys A) A) B y p m)
 
-        of_key : HoldOver (Renamed (key_name args.keys) C) (DependencyRenamed (key_name args.keys) D) (IsLinked (BothRenamed (key_name args.keys) E)) (group_columns args) B
-        of_key = renamed_hold cols A h (key_name args.keys) (group_columns args) B (λ y m b c e.
-            let o = source y m in
-            let r = group_key_from cols args.keys A o.0 o.1 b (key_source args.keys b c e).0 in
-            (r.0, list_in A r.0 r.1, λ b c e. ap (λ r. value_at (group_columns args) r c) (o.2 ∙ ap (group_row args (λ a. value_of a (with_key cols args.keys o.0 A))) r.2) ∙ named_at (λ a. value_of a (with_key cols args.keys o.0 A)) r.0 b c e))
-
-        constants : (c : ℕ) → Renamed (key_name args.keys) C c ⊎ ((args.keys ≡ []) × IsAggregate args c) → OneValue (group_columns args) B c
-        constants c (inl k) = of_key.constants c k
-        constants c (inr k) = λ x y m n.
+        constants : (c : ℕ) → (args.keys ≡ []) × IsAggregate args c → OneValue (group_columns args) B c
+        constants c k = λ x y m n.
             let o = source x m in
             let q = source y n in
             let same : o.0 ≡ q.0 = one_group_key cols args.keys A o.0 k.0 o.1 ∙ sym (one_group_key cols args.keys A q.0 k.0 q.1) in
@@ -327,15 +315,14 @@ module _ (args : GroupArgs) (group : IsGroup args) (cols : List ℕ) where
             in
             o.2 ∙ ap (key_row value_of) keys ∙ sym q.2
 
-        determined : (s : List ℕ) (c : ℕ) → DependencyRenamed (key_name args.keys) D s c ⊎ ((args.keys ≢ []) × (s ≡ args.keys) × IsAggregate args c) → Depends (group_columns args) B s c
-        determined s c (inl k) = of_key.determined s c k
-        determined s c (inr k) = λ x y m n same.
+        determined : (s : List ℕ) (c : ℕ) → (args.keys ≢ []) × (s ≡ args.keys) × IsAggregate args c → Depends (group_columns args) B s c
+        determined s c k = λ x y m n same.
             ap (λ r. value_at (group_columns args) r c) (one_row x y m n (subst (λ (r : List ℕ). Agree (group_columns args) r x y) k.1 same))
 
     -- and of the rows of the keys of parts
     partial_hold : (parts : List Bag) → IsPermutation (flat_map (λ part. part) parts) A → IsPermutation (flat_map (partial_rows args cols) parts) B
-        → HoldOver (Renamed (key_name args.keys) C) (DependencyRenamed (key_name args.keys) D) (IsLinked (BothRenamed (key_name args.keys) E)) (group_columns args) B
-    partial_hold parts p q = renamed_hold cols A h (key_name args.keys) (group_columns args) B (λ y m b c e.
+        → HoldOver (λ c. Renamed (key_name args.keys) C c ⊎ ⊥) (λ s c. DependencyRenamed (key_name args.keys) D s c ⊎ ⊥) (IsLinked (λ a b. BothRenamed (key_name args.keys) E a b ⊎ ⊥)) (group_columns args) B
+    partial_hold parts p q = above_hold cols A h (key_name args.keys) (group_columns args) B (λ y m b c e.
         let part = in_flat_map (partial_rows args cols) parts y (in_permuted (flat_map (partial_rows args cols) parts) B y q m) in
         let row : Row → Row = λ k. group_row args (λ a. partial_value cols a (with_key cols args.keys k part.0)) k in
         let k = in_map row (keys_among cols args.keys part.0) y part.2 in
@@ -343,6 +330,7 @@ module _ (args : GroupArgs) (group : IsGroup args) (cols : List ℕ) where
         let there : Contains A r.0 = Contains-permutation (flat_map (λ part. part) parts) A r.0 p (list_in _ r.0 (flat_map_in (λ part. part) parts part.0 r.0 part.1 r.1)) in
         let value_of : Agg → Value = λ a. partial_value cols a (with_key cols args.keys k.0 part.0) in
         (r.0, there, λ b c e. ap (λ r. value_at (group_columns args) r c) (k.2 ∙ ap (group_row args value_of) r.2) ∙ named_at value_of r.0 b c e))
+        (λ c. ⊥) (λ s c. ⊥) (λ c d. ⊥) (λ c n. absurd n) (λ s c n. absurd n) (λ c d n. absurd n)
 
 -- what a list has passes where all do
 passes : {X : Type 0} (p : X → Bool) (xs : List X) (x : X) → list_all p xs ≡ true → In x xs → p x ≡ true
@@ -474,8 +462,17 @@ module _ (shared : List Facts) where
   abbrev pub KnownOf : Expression → Bag → Type 0
   KnownOf t A = HoldOver (IsConstant shared t) (Determines shared t) (AreEqual shared t) (columns_of t) A
 
-  nothing_hold : (cols : List ℕ) (A : Bag) → HoldOver (λ c. ⊥) (λ s c. ⊥) (λ c d. c ≡ d) cols A
-  nothing_hold cols A = record { constants = λ c h. absurd h; determined = λ s c h. absurd h; equal = λ c d e x m. ap (value_at cols x) e }
+  nothing_hold : (cols : List ℕ) (A : Bag) → HoldOver (λ c. ⊥) (λ s c. ⊥) (IsLinked (λ c d. ⊥)) cols A
+  nothing_hold cols A = record { constants = λ c h. absurd h; determined = λ s c h. absurd h; equal = linked_hold (λ c d. ⊥) cols A (λ c d n. absurd n) }
+
+  module _ {C : ℕ → Type 0} {D : List ℕ → ℕ → Type 0} {E : ℕ → ℕ → Type 0} (cols : List ℕ) (A : Bag) (h : HoldOver C D E cols A) where
+    -- rows of which no column keeps its name
+    renewed : (made : List ℕ) (B : Bag) → HoldOver (λ c. Renamed (λ b. None) C c ⊎ ⊥) (λ s c. DependencyRenamed (λ b. None) D s c ⊎ ⊥) (IsLinked (λ a b. BothRenamed (λ b. None) E a b ⊎ ⊥)) made B
+    renewed made B = above_hold cols A h (λ b. None) made B (λ y m b c e. absurd (cc)) (λ c. ⊥) (λ s c. ⊥) (λ c d. ⊥) (λ c n. absurd n) (λ s c n. absurd n) (λ c d n. absurd n)
+
+    -- fewer rows
+    fewer : (B : Bag) → ((x : Row) → Contains B x → Contains A x) → HoldOver (λ c. Renamed Some C c ⊎ ⊥) (λ s c. DependencyRenamed Some D s c ⊎ ⊥) (IsLinked (λ a b. BothRenamed Some E a b ⊎ ⊥)) cols B
+    fewer B sub = kept_hold cols A h B sub (λ c. ⊥) (λ c d. ⊥) (λ c n. absurd n) (λ c d n. absurd n)
 
   module _ (ops : Operators) (from : Sources) (lent : LentHold shared from) where
     leaf_hold : (results : List (List ℕ)) (op : LogicOp) (B : Bag) → IsFormed results (leaf op) → IsLentSet shared (leaf op) → StandsFor ops from (leaf op) B → KnownOf (leaf op) B
@@ -489,12 +486,12 @@ module _ (shared : List Facts) where
     one_hold results (Group args) t B h below gives = group_hold args h.1.0 (columns_of t) _ _ _ gives.0 B (below gives.0 gives.1) (whole_value (columns_of t)) gives.2
     one_hold results (Finish args) t B h below gives = group_hold args h.1 (columns_of t) _ _ _ gives.0 B (below gives.0 gives.1) (finished_value (columns_of t)) gives.2
     one_hold results (Partial args) t B h below gives = partial_hold args h.1.0 (columns_of t) _ _ _ gives.0 B (below gives.0 gives.1) gives.2.0 gives.2.1 gives.2.2
-    one_hold results (Process call) t B h below gives = nothing_hold call.cols B
-    one_hold results (Reduce call on presort) t B h below gives = nothing_hold call.cols B
-    one_hold results (Top args) t B h below gives = fewer_hold (columns_of t) gives.0 (below gives.0 gives.1) B (λ x m. first_in args (columns_of t) gives.0 x (in_permuted _ B x gives.2 m))
-    one_hold results (LastTop args) t B h below gives = fewer_hold (columns_of t) gives.0 (below gives.0 gives.1) B (λ x m. first_in args (columns_of t) gives.0 x (in_permuted _ B x gives.2 m))
+    one_hold results (Process call) t B h below gives = renewed (columns_of t) gives.0 (below gives.0 gives.1) call.cols B
+    one_hold results (Reduce call on presort) t B h below gives = renewed (columns_of t) gives.0 (below gives.0 gives.1) call.cols B
+    one_hold results (Top args) t B h below gives = fewer (columns_of t) gives.0 (below gives.0 gives.1) B (λ x m. first_in args (columns_of t) gives.0 x (in_permuted _ B x gives.2 m))
+    one_hold results (LastTop args) t B h below gives = fewer (columns_of t) gives.0 (below gives.0 gives.1) B (λ x m. first_in args (columns_of t) gives.0 x (in_permuted _ B x gives.2 m))
     one_hold results (LocalTop args) t B h below gives =
-        fewer_hold (columns_of t) gives.0 (below gives.0 gives.1) B (λ x m. Contains-permutation _ gives.0 x gives.2.2 (Contains-append_left B gives.2.0 x m))
+        fewer (columns_of t) gives.0 (below gives.0 gives.1) B (λ x m. Contains-permutation _ gives.0 x gives.2.2 (Contains-append_left B gives.2.0 x m))
     one_hold results op t B h below gives = absurd gives.2
 
     two_hold : (results : List (List ℕ)) (op : LogicOp) (t u : Expression) (Z : Bag) → IsFormed results (two op t u)

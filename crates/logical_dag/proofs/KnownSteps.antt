@@ -9,45 +9,130 @@ use Rattle.scope_expr.specs.declared.expr.Expr.{Expr}
 use Rattle.scope_expr.specs.declared.expr.Expr.TheVariants.{Literal, Col, Neg', Not', Pair'}
 use Rattle.col_sets.specs.Sets.{has, union, rank, count, IsColumnSet}
 use Rattle.col_sets.specs.Columns.{has_below, has_union, union_has, rank_place}
-use Rattle.col_sets.specs.Tests.{both, from_test}
+use Rattle.col_sets.specs.Tests.{both, and_true, from_test, to_test, same_tests}
 use Rattle.fd_closure.specs.declared.facts.Facts.{Facts}
-use Rattle.fd_closure.specs.Known.{equal_of}
+use Rattle.fd_closure.specs.Known.{by_of, equal_of}
 use Rattle.logical_trees.specs.declared.agg.Agg.{Agg}
 use Rattle.logical_trees.specs.declared.args.GroupArgs.{GroupArgs}
 use Rattle.logical_dag.specs.declared.naming.Names.{Names}
 use Rattle.logical_trees.specs.Tree.{group_columns}
 use Rattle.logical_trees.specs.Formed.{IsGroup, IsOver}
-use Rattle.logical_dag.specs.Facts.{IsLinked, stated, Renamed, BothRenamed, DependencyRenamed, is_column, is_literal, ref_name, item_name, key_name, AreSameItem, IsAggregate}
-use Rattle.logical_dag.specs.Known.{name_of, IsNaming, IsDependency, AreClasses, AreDependencies, AreConstants, CarriedConstants, CarriedDependencies, CarriedEqualities, AreCarried, IsItem, AreRenamed, AreProjected, AreGrouped, AreJoined}
-use Rattle.logical_dag.proofs.Either.{from_either, either_second}
-use Rattle.logical_dag.proofs.Classes.{linked_same, classes_same, classes_moved, classes_chain}
+use Rattle.logical_trees.specs.declared.logic_op.LogicOp.TheVariants.{Filter, Project, Group}
+use Rattle.logical_dag.specs.Facts.{IsLinked, stated, Renamed, BothRenamed, IsRenamedSet, DependencyRenamed, is_column, ref_name, item_name, key_name, SetsConstant, SetsEqual, AreSameItem, IsAggregate, MakesConstant, MakesDependent}
+use Rattle.logical_dag.specs.Known.{name_of, IsNaming, IsOwn, IsDependency, AreClasses, AreDependencies, AreConstants, CarriedConstants, CarriedDependencies, CarriedEqualities, AreCarried, IsItem, AreNamed, AreRenamed, AreAbove, AreJoined}
+use Rattle.logical_dag.proofs.Either.{either_first, either_second, either_none}
+use Rattle.logical_dag.proofs.Classes.{linked_same, linked_none, classes_start, classes_same, classes_moved, classes_chain, classes_kept}
 use Rattle.logical_trees.specs.ColumnLemmas.{has_at, rank_at}
 use Rattle.logical_dag.proofs.KnownColumns.{ref_source, key_source}
-use Rattle.logical_dag.proofs.Constants.{constants_same, constants_chain, constants_moved}
-use Rattle.logical_dag.proofs.Dependencies.{dependencies_same, dependencies_moved, dependencies_chain}
+use Rattle.logical_dag.proofs.Constants.{constants_same, constants_chain, constants_moved, constants_kept}
+use Rattle.logical_dag.proofs.Dependencies.{dependencies_same, dependencies_moved, dependencies_chain, dependencies_kept}
 use Rattle.logical_dag.proofs.ItemFacts.{item_one, first_place}
+
+-- ---- facts under new names
+
+-- of no facts but the columns there are none under new names, whatever they are called
+pub blank_named : (from : Facts) (name : ℕ → Option ℕ) (cols : List ℕ) (f : Facts) → f.columns ≡ cols → ((b c : ℕ) → name b ≡ Some c → ⊥) → f.constants ≡ [] → f.determined ≡ [] → ((c d : ℕ) → equal_of f c d ≡ (nat_lt c 128 && nat_eq c d))
+    → AreRenamed from name cols f
+blank_named from name cols f columns none no_constants no_dependencies equal = record {
+  columns = columns;
+  constants = λ c l. (λ m. absurd (let k : has [] c ≡ true = subst (λ (s : List ℕ). has s c ≡ true) no_constants m in cc), λ m. absurd (constant c m));
+  dependencies = record {
+    stated = λ c l m. absurd (let k : has [] c ≡ true = subst (λ (s : List ℕ). has s c ≡ true) no_dependencies m in cc);
+    all = λ s c m. absurd (dependency s c m);
+  };
+  classes = record {
+    own = λ c l. equal c c ∙ and_true (nat_lt c 128) (nat_eq c c) (let b : nat_lt c 128 ≡ true = grind (arith, nat_tests) in b) (to_test c c refl);
+    there = λ c d m. linked_same _ c d (from_test c d (both (nat_lt c 128) (nat_eq c d) (sym (equal c d) ∙ m)).1);
+    back = λ c d m. inl (linked_none _ linked c d m);
+  };
+}
+  where
+    constant : (c : ℕ) → Renamed name (λ b. has from.constants b ≡ true) c ⊎ ⊥ → ⊥
+    constant c (inl m) = none m.0 c m.2
+    constant c (inr m) = m
+
+    dependency : (s : List ℕ) (c : ℕ) → DependencyRenamed name (IsDependency from) s c ⊎ ⊥ → ⊥
+    dependency s c (inl m) = none m.1 c m.3
+    dependency s c (inr m) = m
+
+    linked : (c d : ℕ) → BothRenamed name (λ a b. equal_of from a b ≡ true) c d ⊎ ⊥ → ⊥
+    linked c d (inl m) = none m.0 c m.3
+    linked c d (inr m) = m
 
 -- facts that are carried into rows of which nothing is known
 pub renamed_plain : (from : Facts) (name : ℕ → Option ℕ) (cols : List ℕ) (into f : Facts) → into.columns ≡ cols → into.constants ≡ [] → into.determined ≡ [] → ((c d : ℕ) → equal_of into c d ≡ (nat_lt c 128 && nat_eq c d))
     → AreCarried from name into f → AreRenamed from name cols f
 renamed_plain from name cols into f of_cols no_constants no_dependencies equal h = record {
   columns = h.columns ∙ of_cols;
-  constants = constants_same f (CarriedConstants from name into) (Renamed name (λ b. has from.constants b ≡ true)) h.constants constant (λ c m. inr m);
-  dependencies = dependencies_same f (CarriedDependencies from name into) (DependencyRenamed name (IsDependency from)) h.dependencies dependency (λ s c m. inr m);
-  classes = classes_same f (CarriedEqualities from name into) h.classes (BothRenamed name (λ a b. equal_of from a b ≡ true)) linked (λ c d m. stated (inr m));
+  constants = constants_same f _ _ h.constants constant (λ c. turn);
+  dependencies = dependencies_same f _ _ h.dependencies dependency (λ s c. turn);
+  classes = classes_same f _ h.classes _ linked (λ c d m. stated (turn m));
 }
   where
-    constant : (c : ℕ) → CarriedConstants from name into c → Renamed name (λ b. has from.constants b ≡ true) c
+    turn : {A C : Type 0} → A ⊎ ⊥ → C ⊎ A
+    turn (inl m) = inr m
+    turn (inr m) = absurd m
+
+    constant : (c : ℕ) → CarriedConstants from name into c → Renamed name (λ b. has from.constants b ≡ true) c ⊎ ⊥
     constant c (inl m) = absurd (let k : has [] c ≡ true = subst (λ (s : List ℕ). has s c ≡ true) no_constants m in cc)
-    constant c (inr m) = m
+    constant c (inr m) = inl m
 
-    dependency : (s : List ℕ) (c : ℕ) → CarriedDependencies from name into s c → DependencyRenamed name (IsDependency from) s c
+    dependency : (s : List ℕ) (c : ℕ) → CarriedDependencies from name into s c → DependencyRenamed name (IsDependency from) s c ⊎ ⊥
     dependency s c (inl m) = absurd (let k : has [] c ≡ true = subst (λ (r : List ℕ). has r c ≡ true) no_dependencies m.1 in cc)
-    dependency s c (inr m) = m
+    dependency s c (inr m) = inl m
 
-    linked : (c d : ℕ) → CarriedEqualities from name into c d → IsLinked (BothRenamed name (λ a b. equal_of from a b ≡ true)) c d
+    linked : (c d : ℕ) → CarriedEqualities from name into c d → IsLinked (λ c d. BothRenamed name (λ a b. equal_of from a b ≡ true) c d ⊎ ⊥) c d
     linked c d (inl m) = linked_same _ c d (from_test c d (both (nat_lt c 128) (nat_eq c d) (sym (equal c d) ∙ m)).1)
-    linked c d (inr m) = stated m
+    linked c d (inr m) = stated (inl m)
+
+-- facts are themselves under their own names
+pub kept_named : (f : Facts) → IsOwn f → AreRenamed f Some f.columns f
+kept_named f own = record {
+  columns = refl;
+  constants = λ c l. (λ m. inl (c, m, refl), constant c);
+  dependencies = record { stated = λ c l m. inl (by_of f c, c, (l, m, refl), refl, itself (by_of f c)); all = dependency };
+  classes = classes_same f (λ c d. equal_of f c d ≡ true) (classes_start f own) _ (λ c d m. stated (inl (c, d, m, refl, refl))) equal;
+}
+  where
+    itself : (s : List ℕ) → IsRenamedSet Some s s
+    itself s = record { all = λ c m. refl; just = λ d. (λ m. (d, m, refl), λ m. let e : m.0 ≡ d = (let i = m.2 in cc) in subst (λ (c : ℕ). has s c ≡ true) e m.1) }
+
+    constant : (c : ℕ) → Renamed Some (λ b. has f.constants b ≡ true) c ⊎ ⊥ → has f.constants c ≡ true
+    constant c (inl m) = let e : m.0 ≡ c = (let i = m.2 in cc) in subst (λ (b : ℕ). has f.constants b ≡ true) e m.1
+    constant c (inr m) = absurd m
+
+    alike : (s r : List ℕ) → IsRenamedSet Some r s → (d : ℕ) → has s d ≡ has r d
+    alike s r set d = same_tests _ _ (λ m. let n = (set.just d).0 m in let e : n.0 ≡ d = (let i = n.2 in cc) in subst (λ (c : ℕ). has r c ≡ true) e n.1) (λ m. (set.just d).1 (d, m, refl))
+
+    dependency : (s : List ℕ) (c : ℕ) → DependencyRenamed Some (IsDependency f) s c ⊎ ⊥ → (has f.determined c ≡ true) × ((d : ℕ) → has s d ≡ has (by_of f c) d)
+    dependency s c (inl m) =
+        let e : m.1 ≡ c = (let i = m.3 in cc) in (
+          subst (λ (b : ℕ). has f.determined b ≡ true) e m.2.1,
+          λ d. alike s m.0 m.4 d ∙ ap (λ (r : List ℕ). has r d) (m.2.2 ∙ ap (by_of f) e),
+        )
+    dependency s c (inr m) = absurd m
+
+    equal : (c d : ℕ) → BothRenamed Some (λ a b. equal_of f a b ≡ true) c d ⊎ ⊥ → IsLinked (λ a b. equal_of f a b ≡ true) c d
+    equal c d (inl m) =
+        let e : m.0 ≡ c = (let i = m.3 in cc) in
+        let k : m.1 ≡ d = (let i = m.4 in cc) in
+        stated (subst (λ (b : ℕ). equal_of f c b ≡ true) k (subst (λ (a : ℕ). equal_of f a m.1 ≡ true) e m.2))
+    equal c d (inr m) = absurd m
+
+module _ (from : Facts) (name : ℕ → Option ℕ) (cols : List ℕ) (f g : Facts) (plain : AreRenamed from name cols f) (same : g.columns ≡ f.columns) where
+  -- more facts beside those under new names
+  pub named_more : (C : ℕ → Type 0) (D : List ℕ → ℕ → Type 0) (E : ℕ → ℕ → Type 0) → ((b c : ℕ) → b < 128 → name b ≡ Some c → c < 128) → AreConstants g (λ c. (has f.constants c ≡ true) ⊎ C c)
+      → AreDependencies g (λ s c. IsDependency f s c ⊎ D s c) → AreClasses g (λ c d. (equal_of f c d ≡ true) ⊎ E c d) → AreNamed name C D E cols from g
+  named_more C D E low constants dependencies classes = record {
+    columns = same ∙ plain.columns;
+    constants = constants_same g _ _ (constants_chain f g _ C plain.constants constants) (λ c. either_first either_none) (λ c. either_first inl);
+    dependencies = dependencies_same g _ _ (dependencies_chain f g _ D below plain.dependencies dependencies) (λ s c. either_first either_none) (λ s c. either_first inl);
+    classes = classes_same g _ (classes_chain f g _ E plain.classes classes) _ (λ c d m. stated (either_first either_none m)) (λ c d m. stated (either_first inl m));
+  }
+    where
+      below : (s : List ℕ) (c : ℕ) → DependencyRenamed name (IsDependency from) s c ⊎ ⊥ → c < 128
+      below s c (inl m) = low m.1 c m.2.0 m.3
+      below s c (inr m) = absurd m
 
 -- names by number are names
 pub names_are : (names : Names) (name : ℕ → Option ℕ) → length names.of ≡ 128 → ((c : ℕ) → c < 128 → name_of names c ≡ name c) → ((b c : ℕ) → name b ≡ Some c → b < 128) → name_of names ≡ name
@@ -121,59 +206,57 @@ pub item_low : (below : List ℕ) (items : List Expr) (cols : List ℕ) → IsCo
 item_low below items cols set over b c e = let k = item_source items cols b c e in has_below below set b (item_over below items k.0 b over k.2)
 
 -- the facts of a projection: carried, then its literals, then its items that are one column
-pub projected_all : (items : List Expr) (cols : List ℕ) (from f g h : Facts) → AreRenamed from (item_name items cols) cols f → g ≡ record f { constants = g.constants } → h ≡ record g { class = h.class }
-    → AreConstants g (λ c. (has f.constants c ≡ true) ⊎ ((i : ℕ) × (slice_get cols i ≡ Some c) × IsSomeAnd (slice_get items i) (λ e. is_literal e ≡ true)))
-    → AreClasses h (λ c d. (equal_of g c d ≡ true) ⊎ AreSameItem items cols c d) → AreProjected items cols from h
-projected_all items cols from f g h plain i j literals same = record {
-  columns = ap (λ (k : Facts). k.columns) j ∙ ap (λ (k : Facts). k.columns) i ∙ plain.columns;
-  constants = constants_moved g h _ (ap (λ (k : Facts). k.constants) j) (constants_chain f g _ _ plain.constants literals);
-  dependencies = dependencies_moved f h (DependencyRenamed (item_name items cols) (IsDependency from)) (ap (λ (k : Facts). k.determined) j ∙ ap (λ (k : Facts). k.determined) i) (ap (λ (k : Facts). k.by) j ∙ ap (λ (k : Facts). k.by) i) plain.dependencies;
-  classes = classes_chain g h (BothRenamed (item_name items cols) (λ a b. equal_of from a b ≡ true)) (AreSameItem items cols) (classes_moved f g (BothRenamed (item_name items cols) (λ a b. equal_of from a b ≡ true)) (ap (λ (k : Facts). k.class) i) plain.classes) same;
-}
+pub projected_all : (items : List Expr) (cols : List ℕ) (from f g h : Facts) → IsColumnSet cols → AreRenamed from (item_name items cols) cols f → g ≡ record f { constants = g.constants } → h ≡ record g { class = h.class }
+    → AreConstants g (λ c. (has f.constants c ≡ true) ⊎ MakesConstant (Project items cols) c) → AreClasses h (λ c d. (equal_of g c d ≡ true) ⊎ AreSameItem items cols c d) → AreAbove (Project items cols) from h
+projected_all items cols from f g h set plain i j literals same =
+    named_more from (item_name items cols) cols f h plain (ap (λ (k : Facts). k.columns) j ∙ ap (λ (k : Facts). k.columns) i) (MakesConstant (Project items cols)) (λ s c. ⊥) (AreSameItem items cols) (λ b c l. (item_naming items cols set).below b c)
+    (constants_moved g h _ (ap (λ (k : Facts). k.constants) j) literals)
+    (dependencies_moved f h _ (ap (λ (k : Facts). k.determined) j ∙ ap (λ (k : Facts). k.determined) i) (ap (λ (k : Facts). k.by) j ∙ ap (λ (k : Facts). k.by) i) (dependencies_kept f (λ s c. ⊥) (λ s c m. m)))
+    (classes_same h _ same _ (λ c d m. stated (either_first (λ k. sym (equal c d) ∙ k) m)) (λ c d m. stated (either_first (λ k. equal c d ∙ k) m)))
+  where
+    equal : (c d : ℕ) → equal_of g c d ≡ equal_of f c d
+    equal c d = ap (λ (k : Facts). equal_of (record f { class = k.class }) c d) i
+
+-- the facts of a filter: its own, with what the predicate states
+pub filtered_all : (e : Expr) (f g : Facts) → IsOwn f → g ≡ record f { constants = g.constants; class = g.class } → AreConstants g (λ c. (has f.constants c ≡ true) ⊎ SetsConstant e c)
+    → AreClasses g (λ c d. (equal_of f c d ≡ true) ⊎ SetsEqual e c d) → AreAbove (Filter e) f g
+filtered_all e f g own i constants classes =
+    named_more f Some f.columns f g (kept_named f own) (ap (λ (k : Facts). k.columns) i) (SetsConstant e) (λ s c. ⊥) (SetsEqual e) (λ b c l k. let same : b ≡ c = cc in subst (λ (j : ℕ). j < 128) same l) constants
+    (dependencies_moved f g _ (ap (λ (k : Facts). k.determined) i) (ap (λ (k : Facts). k.by) i) (dependencies_kept f (λ s c. ⊥) (λ s c m. m))) classes
 
 -- the key's facts know no dependency of an aggregate
 pub key_free : (args : GroupArgs) (from f : Facts) → IsGroup args → AreRenamed from (key_name args.keys) (group_columns args) f → All (λ a. has f.determined a.id ≡ false) args.aggs
 key_free args from f group h k d l = go (slice_index_or args.aggs k d) (group.own k d l) (group.below k d l)
   where
+    from_key : {s : List ℕ} (c : ℕ) → DependencyRenamed (key_name args.keys) (IsDependency from) s c ⊎ ⊥ → has args.keys c ≡ true
+    from_key c (inl m) = let k = key_source args.keys m.1 c m.3 in subst (λ (i : ℕ). has args.keys i ≡ true) k.1 k.0
+    from_key c (inr m) = absurd m
+
     go : (a : Agg) → has args.keys a.id ≡ false → a.id < 128 → has f.determined a.id ≡ false
     go a own low = test (has f.determined a.id) refl
       where
         test : (t : Bool) → has f.determined a.id ≡ t → has f.determined a.id ≡ false
         test false t = t
         test true t =
-            let m = h.dependencies.stated a.id low t in
-            let k = key_source args.keys m.1 a.id m.3 in
-            absurd (let there : has args.keys a.id ≡ true = subst (λ (i : ℕ). has args.keys i ≡ true) k.1 k.0 in cc)
+            absurd (let there : has args.keys a.id ≡ true = from_key a.id (h.dependencies.stated a.id low t) in cc)
 
--- the facts of a group without a key
-pub grouped_none : (args : GroupArgs) (from f g : Facts) → count args.keys ≡ 0 → AreRenamed from (key_name args.keys) (group_columns args) f → g ≡ record f { constants = g.constants }
-    → AreConstants g (λ c. (has f.constants c ≡ true) ⊎ Any (λ a. a.id ≡ c) args.aggs) → AreGrouped args from g
-grouped_none args from f g none h i constants = record {
-  columns = ap (λ (k : Facts). k.columns) i ∙ h.columns;
-  constants = constants_same g (λ c. Renamed (key_name args.keys) (λ b. has from.constants b ≡ true) c ⊎ Any (λ a. a.id ≡ c) args.aggs) _ (constants_chain f g _ _ h.constants constants) (λ c. either_second (λ m. (empty, m))) (λ c. either_second (λ m. m.1));
-  dependencies = dependencies_same g (DependencyRenamed (key_name args.keys) (IsDependency from)) _ (dependencies_moved f g _ (ap (λ (k : Facts). k.determined) i) (ap (λ (k : Facts). k.by) i) h.dependencies) (λ s c m. inl m) (λ s c. from_either (λ m. m) (λ m. absurd (m.0 empty)));
-  classes = classes_moved f g _ (ap (λ (k : Facts). k.class) i) h.classes;
-}
-  where
-    empty : args.keys ≡ []
-    empty = nil_from_length args.keys none
+-- the facts of a group, by those of its key and its aggregates
+module _ (args : GroupArgs) (from f g : Facts) (group : IsGroup args) (h : AreRenamed from (key_name args.keys) (group_columns args) f) where
+  -- without a key
+  pub grouped_none : count args.keys ≡ 0 → g ≡ record f { constants = g.constants } → AreConstants g (λ c. (has f.constants c ≡ true) ⊎ IsAggregate args c) → AreAbove (Group args) from g
+  grouped_none none i constants =
+      named_more from (key_name args.keys) (group_columns args) f g h (ap (λ (k : Facts). k.columns) i) (MakesConstant (Group args)) (MakesDependent (Group args)) (λ c d. ⊥) (λ b c l. (key_naming args.keys group.key_set).below b c)
+      (constants_same g _ _ constants (λ c. either_second (λ m. (nil_from_length args.keys none, m))) (λ c. either_second (λ m. m.1)))
+      (dependencies_moved f g _ (ap (λ (k : Facts). k.determined) i) (ap (λ (k : Facts). k.by) i) (dependencies_kept f (MakesDependent (Group args)) (λ s c m. m.0 (nil_from_length args.keys none))))
+      (classes_moved f g _ (ap (λ (k : Facts). k.class) i) (classes_kept f (λ c d. ⊥) h.classes.own (λ c d m. m)))
 
--- the facts of a group with one
-pub grouped_some : (args : GroupArgs) (from f g : Facts) → (count args.keys ≡ 0 → ⊥) → AreRenamed from (key_name args.keys) (group_columns args) f → g ≡ record f { determined = g.determined; by = g.by }
-    → AreDependencies g (λ s c. IsDependency f s c ⊎ ((s ≡ args.keys) × Any (λ a. a.id ≡ c) args.aggs)) → IsGroup args → AreGrouped args from g
-grouped_some args from f g some h i depends group = record {
-  columns = ap (λ (k : Facts). k.columns) i ∙ h.columns;
-  constants = constants_same g (Renamed (key_name args.keys) (λ b. has from.constants b ≡ true)) _ (constants_moved f g _ (ap (λ (k : Facts). k.constants) i) h.constants) (λ c m. inl m) (λ c. from_either (λ m. m) (λ m. absurd (keyed m.0)));
-  dependencies = dependencies_same g _ _
-      (dependencies_chain f g (DependencyRenamed (key_name args.keys) (IsDependency from)) (λ s c. (s ≡ args.keys) × IsAggregate args c) low h.dependencies depends) (λ s c. either_second (λ m. (keyed, m.0, m.1))) (λ s c. either_second (λ m. (m.1, m.2)));
-  classes = classes_moved f g _ (ap (λ (k : Facts). k.class) i) h.classes;
-}
-  where
-    keyed : args.keys ≢ []
-    keyed e = some (ap count e)
-
-    low : (s : List ℕ) (c : ℕ) → DependencyRenamed (key_name args.keys) (IsDependency from) s c → c < 128
-    low s c m = (key_naming args.keys group.key_set).below m.1 c m.3
+  -- with one
+  pub grouped_some : (count args.keys ≡ 0 → ⊥) → g ≡ record f { determined = g.determined; by = g.by } → AreDependencies g (λ s c. IsDependency f s c ⊎ ((s ≡ args.keys) × IsAggregate args c)) → AreAbove (Group args) from g
+  grouped_some some i depends =
+      named_more from (key_name args.keys) (group_columns args) f g h (ap (λ (k : Facts). k.columns) i) (MakesConstant (Group args)) (MakesDependent (Group args)) (λ c d. ⊥) (λ b c l. (key_naming args.keys group.key_set).below b c)
+      (constants_moved f g _ (ap (λ (k : Facts). k.constants) i) (constants_kept f (MakesConstant (Group args)) (λ c m. some (ap count m.0))))
+      (dependencies_same g _ _ depends (λ s c. either_second (λ m. (λ e. some (ap count e), m.0, m.1))) (λ s c. either_second (λ m. (m.1, m.2))))
+      (classes_moved f g _ (ap (λ (k : Facts). k.class) i) (classes_kept f (λ c d. ⊥) h.classes.own (λ c d m. m)))
 
 -- the facts of a join: the constants and dependencies of both sides, then the equalities, then its pairs
 pub joined_all : (on : List (ℕ × ℕ)) (left right f g h : Facts) (cols constants : List ℕ) → cols ≡ union left.columns right.columns → constants ≡ union left.constants right.constants

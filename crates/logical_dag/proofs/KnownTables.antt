@@ -14,25 +14,24 @@ use Rattle.logical_trees.specs.declared.args.GroupArgs.{GroupArgs}
 use Rattle.logical_trees.specs.declared.args.CallArgs.{CallArgs}
 use Rattle.logical_trees.specs.declared.logic_op.LogicOp.{LogicOp}
 use Rattle.logical_trees.specs.declared.logic_op.LogicOp.TheVariants.{Scan, Ref, Filter, Project, Join, Group, Process, Reduce, Combine, Partial, Finish}
-use Rattle.logical_trees.specs.Tree.{Expression, leaf, one, two, columns_of, group_columns}
-use Rattle.logical_trees.specs.Formed.{IsGroup, IsJoin, IsOver, IsFormed}
-use Rattle.logical_dag.specs.Facts.{IsLinked, stated, Renamed, BothRenamed, DependencyRenamed, IsAggregate, AreSameItem, SetsConstant, SetsEqual, ref_name, item_name, key_name, is_literal, IsConstant, Determines, AreEqual, AreFactsOf}
+use Rattle.logical_trees.specs.Tree.{Expression, leaf, one, two, one_columns, columns_of}
+use Rattle.logical_trees.specs.Formed.{IsJoin, IsOver, IsFormed, IsOneFormed}
+use Rattle.logical_dag.specs.Facts.{IsLinked, stated, itself, Renamed, BothRenamed, DependencyRenamed, SetsEqual, ref_name, name_above, MakesEqual, IsConstant, Determines, IsStatedEqual, AreEqual, AreFactsOf}
 use Rattle.logical_dag.specs.Laws.{lent_columns}
 use Rattle.std.proofs.lemmas.Option.{slice_get-map}
-use Rattle.logical_dag.specs.Known.{IsLentSet, IsDependency, IsOwn, AreBelow, AreClasses, AreDependencies, AreConstants, AreRenamed, AreProjected, AreGrouped, AreJoined, AreApart, IsJoinApart}
-use Rattle.logical_dag.proofs.Classes.{classes_same, classes_chain, classes_linked}
+use Rattle.logical_dag.specs.Known.{IsLentSet, IsDependency, IsOwn, AreBelow, AreClasses, AreDependencies, AreConstants, AreRenamed, AreAbove, AreFactsAbove, AreJoined, AreApart, IsJoinApart}
+use Rattle.logical_dag.proofs.Classes.{linked_bind, linked_same, linked_none, classes_same, classes_linked}
 use Rattle.logical_trees.specs.ColumnLemmas.{columns_set}
 use Rattle.logical_dag.proofs.KnownColumns.{AreAbout, known_about, equal_over}
-use Rattle.logical_dag.proofs.Links.{linked_within, equal_itself, equal_turned, equal_chained}
-use Rattle.logical_dag.proofs.Either.{either_first, either_second}
+use Rattle.logical_dag.proofs.Either.{from_either, either_first, either_second, either_none}
 use Rattle.logical_dag.proofs.JoinTables.{joined_constants, joined_dependencies, joined_classes}
-use Rattle.logical_dag.proofs.Constants.{constants_same, constants_chain}
-use Rattle.logical_dag.proofs.Dependencies.{dependencies_same, dependencies_moved}
-use Rattle.logical_dag.proofs.KnownSteps.{key_low, item_low, ref_low}
+use Rattle.logical_dag.proofs.Constants.{constants_same}
+use Rattle.logical_dag.proofs.Dependencies.{dependencies_same}
+use Rattle.logical_dag.proofs.KnownSteps.{kept_named, key_low, item_low, ref_low}
 
 -- by the facts of an expression each column is equal to itself
 pub facts_own : (shared : List Facts) (t : Expression) (f : Facts) → AreFactsOf shared t f → IsOwn f
-facts_own shared t f h c l = (h.equal c c l l).1 (equal_itself shared t c)
+facts_own shared t f h c l = (h.equal c c l l).1 itself
 
 module _ (shared : List Facts) (t : Expression) (f : Facts) (results : List (List ℕ)) (formed : IsFormed results t) (h : AreFactsOf shared t f) where
   -- columns of which the expression's facts speak are below 128
@@ -54,7 +53,7 @@ module _ (shared : List Facts) (t : Expression) (f : Facts) (results : List (Lis
   facts_classes = record {
     own = facts_own shared t f h;
     there = λ c d m. stated (equal_there c d m);
-    back = λ c d l. equal_back c d (linked_within (AreEqual shared t) (AreEqual shared t) (λ a b m. m) (equal_itself shared t) (equal_turned shared t) (equal_chained shared t) c d l);
+    back = λ c d l. equal_back c d (linked_bind (AreEqual shared t) (IsStatedEqual shared t) (λ a b m. m) c d l);
   }
 
   -- what the table says of dependencies is of columns below 128
@@ -65,142 +64,98 @@ module _ (shared : List Facts) (t : Expression) (f : Facts) (results : List (Lis
   pub equal_within : (c d : ℕ) → AreEqual shared t c d → (c ≡ d) ⊎ ((has f.columns c ≡ true) × (has f.columns d ≡ true))
   equal_within c d m = subst (λ (s : List ℕ). (c ≡ d) ⊎ ((has s c ≡ true) × (has s d ≡ true))) (sym h.columns) (about.equal c d m)
 
-  -- renamed facts of the expression
-  module _ (name : ℕ → Option ℕ) (named : (b c : ℕ) → name b ≡ Some c → b < 128) where
-    constant_there : (c : ℕ) → Renamed name (λ b. has f.constants b ≡ true) c → Renamed name (IsConstant shared t) c
-    constant_there c m = (m.0, (h.constants m.0 (named m.0 c m.2)).0 m.1, m.2)
+  -- dependencies by the facts, renamed, are so by the table, and the other way round
+  depend_there : (name : ℕ → Option ℕ) (s : List ℕ) (c : ℕ) → DependencyRenamed name (IsDependency f) s c → DependencyRenamed name (Determines shared t) s c
+  depend_there name s c m = (m.0, m.1, subst (λ (r : List ℕ). Determines shared t r m.1) (sym m.2.2) (h.stated m.1 m.2.0 m.2.1), m.3, m.4)
 
-    constant_back : (c : ℕ) → Renamed name (IsConstant shared t) c → Renamed name (λ b. has f.constants b ≡ true) c
-    constant_back c m = (m.0, (h.constants m.0 (named m.0 c m.2)).1 m.1, m.2)
+  depend_back : (name : ℕ → Option ℕ) (s : List ℕ) (c : ℕ) → DependencyRenamed name (Determines shared t) s c → DependencyRenamed name (IsDependency f) s c
+  depend_back name s c m =
+      let k = h.all m.0 m.1 m.2 in (
+        by_of f m.1,
+        m.1,
+        (low m.1 (about.determined m.0 m.1 m.2), k.0, refl),
+        m.3,
+        record {
+          all = λ b n. m.4.all b (k.1 b ∙ n);
+          just = λ d. (λ n. let p = (m.4.just d).0 n in (p.0, sym (k.1 p.0) ∙ p.1, p.2), λ n. (m.4.just d).1 (n.0, k.1 n.0 ∙ n.1, n.2));
+        },
+      )
 
-    depend_there : (s : List ℕ) (c : ℕ) → DependencyRenamed name (IsDependency f) s c → DependencyRenamed name (Determines shared t) s c
-    depend_there s c m = (m.0, m.1, subst (λ (r : List ℕ). Determines shared t r m.1) (sym m.2.2) (h.stated m.1 m.2.0 m.2.1), m.3, m.4)
+  -- the facts of a node over the expression
+  pub above_facts : (op : LogicOp) (g : Facts) → ((b c : ℕ) → c < 128 → name_above op b ≡ Some c → b < 128) → AreAbove op f g → AreFactsOf shared (one op t) g
+  above_facts op g named r = record {
+    columns = r.columns ∙ ap (one_columns op) h.columns;
+    constants = λ c l. (
+      λ m. either_first (λ k. (k.0, (h.constants k.0 (named k.0 c l k.2)).0 k.1, k.2)) ((r.constants c l).0 m),
+      λ m. (r.constants c l).1 (either_first (λ k. (k.0, (h.constants k.0 (low k.0 (about.constants k.0 k.1))).1 k.1, k.2)) m),
+    );
+    stated = λ c l m. either_first (depend_there (name_above op) (by_of g c) c) (r.dependencies.stated c l m);
+    all = λ s c m. r.dependencies.all s c (either_first (depend_back (name_above op) s c) m);
+    equal = classes_linked g (IsStatedEqual shared (one op t))
+        (classes_same g _ r.classes (IsStatedEqual shared (one op t)) (λ c d m. stated (either_first (λ k. (k.0, k.1, equal_there k.0 k.1 k.2, k.3, k.4)) m)) back);
+  }
+    where
+      Kept : ℕ → ℕ → Type 0
+      Kept c d = BothRenamed (name_above op) (λ a b. equal_of f a b ≡ true) c d ⊎ MakesEqual op c d
 
-    depend_back : (s : List ℕ) (c : ℕ) → DependencyRenamed name (Determines shared t) s c → DependencyRenamed name (IsDependency f) s c
-    depend_back s c m =
-        let k = h.all m.0 m.1 m.2 in (
-          by_of f m.1,
-          m.1,
-          (named m.1 c m.3, k.0, refl),
-          m.3,
-          record {
-            all = λ b n. m.4.all b (k.1 b ∙ n);
-            just = λ d. (λ n. let p = (m.4.just d).0 n in (p.0, sym (k.1 p.0) ∙ p.1, p.2), λ n. (m.4.just d).1 (n.0, k.1 n.0 ∙ n.1, n.2));
-          },
-        )
+      back : (c d : ℕ) → IsStatedEqual shared (one op t) c d → IsLinked Kept c d
+      back c d (inr m) = stated (inr m)
+      back c d (inl m) =
+          from_either (λ e. let same : Some c ≡ Some d = sym m.3 ∙ ap (name_above op) e ∙ m.4 in linked_same Kept c d (cc)) (λ k. stated (inl (m.0, m.1, k, m.3, m.4))) (equal_back m.0 m.1 m.2)
 
-    both_there : (c d : ℕ) → BothRenamed name (λ a b. equal_of f a b ≡ true) c d → BothRenamed name (AreEqual shared t) c d
-    both_there c d m = (m.0, m.1, equal_there m.0 m.1 m.2, m.3, m.4)
+  -- names above a node are of columns below 128
+  pub above_low : (op : LogicOp) → IsOneFormed (columns_of t) op → (b c : ℕ) → c < 128 → name_above op b ≡ Some c → b < 128
+  above_low (Project items cols) over b c l e = item_low (columns_of t) items cols (columns_set results t formed) over.2 b c e
+  above_low (Group args) over b c l e = key_low args.keys over.0.key_set b c e
+  above_low (Partial args) over b c l e = key_low args.keys over.0.key_set b c e
+  above_low (Finish args) over b c l e = key_low args.keys over.key_set b c e
+  above_low (Process call) over b c l e = absurd (cc)
+  above_low (Reduce call on presort) over b c l e = absurd (cc)
+  above_low op over b c l e = let same : b ≡ c = cc in subst (λ (i : ℕ). i < 128) (sym same) l
 
-    both_back : (c d : ℕ) → BothRenamed name (AreEqual shared t) c d → BothRenamed name (λ a b. equal_of f a b ≡ true) c d
-    both_back c d m = (m.0, m.1, (h.equal m.0 m.1 (named m.0 c m.3) (named m.1 d m.4)).1 m.2, m.3, m.4)
+  -- the facts of a node over the expression, as the node makes them of those of the expression
+  pub node_facts : (op : LogicOp) (g : Facts) → IsOneFormed (columns_of t) op → AreAbove op f g → AreFactsOf shared (one op t) g
+  node_facts op g over r = above_facts op g (above_low op over) r
 
-    -- with what is stated beside them
-    constants_renamed : (g : Facts) (C : ℕ → Type 0) → AreConstants g (λ c. Renamed name (λ b. has f.constants b ≡ true) c ⊎ C c) → AreConstants g (λ c. Renamed name (IsConstant shared t) c ⊎ C c)
-    constants_renamed g C k = constants_same g _ _ k (λ c. either_first (constant_there c)) (λ c. either_first (constant_back c))
-
-    depends_renamed : (g : Facts) → AreDependencies g (DependencyRenamed name (IsDependency f)) → AreDependencies g (DependencyRenamed name (Determines shared t))
-    depends_renamed g k = dependencies_same g _ _ k depend_there depend_back
-
-    classes_renamed : (g : Facts) → AreClasses g (BothRenamed name (λ a b. equal_of f a b ≡ true)) → AreClasses g (BothRenamed name (AreEqual shared t))
-    classes_renamed g k = classes_same g _ k _ (λ c d m. stated (both_there c d m)) (λ c d m. stated (both_back c d m))
-
-  -- the facts of the first step of a grouping
-  pub partial_facts : (args : GroupArgs) (g : Facts) → IsGroup args → AreRenamed f (key_name args.keys) (group_columns args) g → AreFactsOf shared (one (Partial args) t) g
-  partial_facts args g group r =
-      let named = key_low args.keys group.key_set in
-      let depends = depends_renamed (key_name args.keys) named g r.dependencies in
-      record {
-        columns = r.columns;
-        constants = constants_same g _ _ r.constants (constant_there (key_name args.keys) named) (constant_back (key_name args.keys) named);
-        stated = depends.stated;
-        all = depends.all;
-        equal = classes_linked g _ (classes_renamed (key_name args.keys) named g r.classes);
-      }
-
-  -- the facts of a projection
-  pub project_facts : (items : List Expr) (cols : List ℕ) (g : Facts) → All (IsOver (columns_of t)) items → AreProjected items cols f g → AreFactsOf shared (one (Project items cols) t) g
-  project_facts items cols g over r =
-      let named = item_low (columns_of t) items cols (columns_set results t formed) over in
-      let depends = depends_renamed (item_name items cols) named g r.dependencies in
-      record {
-        columns = r.columns;
-        constants = constants_renamed (item_name items cols) named g _ r.constants;
-        stated = depends.stated;
-        all = depends.all;
-        equal = classes_linked g _
-            (classes_same g _ r.classes (λ c d. BothRenamed (item_name items cols) (AreEqual shared t) c d ⊎ AreSameItem items cols c d)
-            (λ c d m. stated (either_first (both_there (item_name items cols) named c d) m)) (λ c d m. stated (either_first (both_back (item_name items cols) named c d) m)));
-      }
-
-  -- the facts of a grouping
-  pub group_facts : (args : GroupArgs) (g : Facts) → IsGroup args → AreGrouped args f g → AreFactsOf shared (one (Group args) t) g
-  group_facts args g group r =
-      let named = key_low args.keys group.key_set in
-      let depends = dependencies_same g _ (Determines shared (one (Group args) t)) r.dependencies (λ s c. either_first (depend_there (key_name args.keys) named s c)) (λ s c. either_first (depend_back (key_name args.keys) named s c)) in
-      record {
-        columns = r.columns;
-        constants = constants_renamed (key_name args.keys) named g _ r.constants;
-        stated = depends.stated;
-        all = depends.all;
-        equal = classes_linked g _ (classes_renamed (key_name args.keys) named g r.classes);
-      }
-
-  -- the facts of the second step of a grouping
-  pub finish_facts : (args : GroupArgs) (g : Facts) → IsGroup args → AreGrouped args f g → AreFactsOf shared (one (Finish args) t) g
-  finish_facts args g group r =
-      let k = group_facts args g group r in
-      record { columns = k.columns; constants = k.constants; stated = k.stated; all = k.all; equal = k.equal }
-
-  -- the facts of a filter
-  pub filter_facts : (e : Expr) (g : Facts) → g ≡ record f { constants = g.constants; class = g.class } → AreConstants g (λ c. (has f.constants c ≡ true) ⊎ SetsConstant e c)
-      → AreClasses g (λ c d. (equal_of f c d ≡ true) ⊎ SetsEqual e c d) → AreFactsOf shared (one (Filter e) t) g
-  filter_facts e g rest constants classes =
-      let depends = dependencies_moved f g (Determines shared t) (ap (λ (x : Facts). x.determined) rest) (ap (λ (x : Facts). x.by) rest) (record { stated = h.stated; all = h.all }) in
-      record {
-        columns = ap (λ (x : Facts). x.columns) rest ∙ h.columns;
-        constants = constants_chain f g (IsConstant shared t) (SetsConstant e) h.constants constants;
-        stated = depends.stated;
-        all = depends.all;
-        equal = classes_linked g _ (classes_chain f g (AreEqual shared t) (SetsEqual e) facts_classes classes);
-      }
+-- the same of any expression with the facts below, where the node is of that kind
+pub facts_above : (op kind : LogicOp) (f g : Facts) → op ≡ kind → AreAbove kind f g → AreFactsAbove op f g
+facts_above op kind f g is r shared t formed facts =
+    subst (λ (op : LogicOp). AreFactsOf shared (one op t) g) (sym is)
+    (node_facts shared t f (lent_columns shared) formed.0 facts kind g (subst (λ (op : LogicOp). IsOneFormed (columns_of t) op) is formed.1) r)
 
 -- facts of which nothing is known but the columns
 pub plain_facts : (shared : List Facts) (f : Facts) → f.constants ≡ [] → f.determined ≡ [] → ((c d : ℕ) → equal_of f c d ≡ (nat_lt c 128 && nat_eq c d))
-    → ((c : ℕ) → c < 128 → (has f.constants c ≡ true) ↔ ⊥) × ((c : ℕ) → c < 128 → has f.determined c ≡ true → ⊥) × ((c d : ℕ) → c < 128 → d < 128 → (equal_of f c d ≡ true) ↔ (c ≡ d))
+    → ((c : ℕ) → c < 128 → (has f.constants c ≡ true) ↔ ⊥) × ((c : ℕ) → c < 128 → has f.determined c ≡ true → ⊥) × ((c d : ℕ) → c < 128 → d < 128 → (equal_of f c d ≡ true) ↔ IsLinked (λ c d. ⊥) c d)
 plain_facts shared f p q r = (
   λ c l. (λ h. absurd (let k : has [] c ≡ true = ap (λ s. has s c) (sym p) ∙ h in cc), λ h. absurd h),
   λ c l h. absurd (let k : has [] c ≡ true = ap (λ s. has s c) (sym q) ∙ h in cc),
-  λ c d l m. (λ h. from_test c d (both (nat_lt c 128) (nat_eq c d) (sym (r c d) ∙ h)).1, λ e. r c d ∙ and_true (nat_lt c 128) (nat_eq c d) (let b : nat_lt c 128 ≡ true = grind (arith, nat_tests) in b) (to_test c d e)),
+  λ c d l m. (
+    λ h. linked_same _ c d (from_test c d (both (nat_lt c 128) (nat_eq c d) (sym (r c d) ∙ h)).1),
+    λ e. r c d ∙ and_true (nat_lt c 128) (nat_eq c d) (let b : nat_lt c 128 ≡ true = grind (arith, nat_tests) in b) (to_test c d (linked_none _ (λ a b n. n) c d e)),
+  ),
 )
+
+-- the tables of what is lent, where something is
+abbrev AreLent : List ℕ → Facts → Option Facts → Type 0
+AreLent cols g o =
+    AreConstants g (Renamed (ref_name (option_map_or (λ f. f.columns) o []) cols) (λ b. IsSomeAnd o (λ f. has f.constants b ≡ true)))
+    × AreDependencies g (DependencyRenamed (ref_name (option_map_or (λ f. f.columns) o []) cols) (λ s b. IsSomeAnd o (λ f. (has f.determined b ≡ true) × (s ≡ by_of f b))))
+    × AreClasses g (BothRenamed (ref_name (option_map_or (λ f. f.columns) o []) cols) (λ a b. IsSomeAnd o (λ f. equal_of f a b ≡ true)))
 
 -- the facts of a Ref
 pub ref_facts : (shared : List Facts) (i : ℕ) (cols : List ℕ) (lent g : Facts) → slice_get shared i ≡ Some lent → IsColumnSet lent.columns → AreRenamed lent (ref_name lent.columns cols) cols g → AreFactsOf shared (leaf (Ref i cols)) g
-ref_facts shared i cols lent g at set r = record { columns = r.columns; constants = constants; stated = depends.stated; all = depends.all; equal = equal }
+ref_facts shared i cols lent g at set r = record { columns = r.columns; constants = known.0; stated = known.1.stated; all = known.1.all; equal = classes_linked g _ known.2 }
   where
-    named : (b c : ℕ) → ref_name lent.columns cols b ≡ Some c → b < 128
-    named = ref_low lent.columns cols set
+    there : (s : List ℕ) (c : ℕ) → DependencyRenamed (ref_name lent.columns cols) (IsDependency lent) s c ⊎ ⊥ → DependencyRenamed (ref_name lent.columns cols) (λ s b. (has lent.determined b ≡ true) × (s ≡ by_of lent b)) s c
+    there s c (inl m) = (m.0, m.1, (m.2.1, m.2.2), m.3, m.4)
+    there s c (inr m) = absurd m
 
-    -- the tables at what is lent
-    constants_at : (o : Option Facts) → o ≡ Some lent → AreConstants g (Renamed (ref_name (option_map_or (λ f. f.columns) o []) cols) (λ b. IsSomeAnd o (λ f. has f.constants b ≡ true)))
-    constants_at o e = subst (λ (o : Option Facts). AreConstants g (Renamed (ref_name (option_map_or (λ f. f.columns) o []) cols) (λ b. IsSomeAnd o (λ f. has f.constants b ≡ true)))) (sym e) r.constants
-
-    constants : (c : ℕ) → c < 128 → (has g.constants c ≡ true) ↔ IsConstant shared (leaf (Ref i cols)) c
-    constants = constants_at (slice_get shared i) at
-
-    depends_lent : AreDependencies g (DependencyRenamed (ref_name lent.columns cols) (λ s b. (has lent.determined b ≡ true) × (s ≡ by_of lent b)))
-    depends_lent = dependencies_same g (DependencyRenamed (ref_name lent.columns cols) (IsDependency lent)) _ r.dependencies
-        (λ s c m. (m.0, m.1, (m.2.1, m.2.2), m.3, m.4)) (λ s c m. (m.0, m.1, (named m.1 c m.3, m.2.0, m.2.1), m.3, m.4))
-
-    depends : AreDependencies g (Determines shared (leaf (Ref i cols)))
-    depends = subst (λ (o : Option Facts). AreDependencies g (DependencyRenamed (ref_name (option_map_or (λ f. f.columns) o []) cols) (λ s b. IsSomeAnd o (λ f. (has f.determined b ≡ true) × (s ≡ by_of f b))))) (sym at) depends_lent
-
-    equal_at : (o : Option Facts) → o ≡ Some lent → (c d : ℕ) → c < 128 → d < 128 → (equal_of g c d ≡ true) ↔ IsLinked (BothRenamed (ref_name (option_map_or (λ f. f.columns) o []) cols) (λ a b. IsSomeAnd o (λ f. equal_of f a b ≡ true))) c d
-    equal_at o e = subst (λ (o : Option Facts). (c d : ℕ) → c < 128 → d < 128 → (equal_of g c d ≡ true) ↔ IsLinked (BothRenamed (ref_name (option_map_or (λ f. f.columns) o []) cols) (λ a b. IsSomeAnd o (λ f. equal_of f a b ≡ true))) c d) (sym e)
-        (classes_linked g (BothRenamed (ref_name lent.columns cols) (λ a b. equal_of lent a b ≡ true)) r.classes)
-
-    equal : (c d : ℕ) → c < 128 → d < 128 → (equal_of g c d ≡ true) ↔ AreEqual shared (leaf (Ref i cols)) c d
-    equal = equal_at (slice_get shared i) at
+    known : AreLent cols g (slice_get shared i)
+    known = subst (AreLent cols g) (sym at) (
+      constants_same g _ _ r.constants (λ c. either_none) (λ c. inl),
+      dependencies_same g _ _ r.dependencies there (λ s c m. inl (m.0, m.1, (ref_low lent.columns cols set m.1 c m.3, m.2.0, m.2.1), m.3, m.4)),
+      classes_same g _ r.classes _ (λ c d m. stated (either_none m)) (λ c d m. stated (inl m)),
+    )
 
 module _ (shared : List Facts) (results : List (List ℕ)) (t u : Expression) (left right : Facts) (formed : IsFormed results t) (other : IsFormed results u) (h : AreFactsOf shared t left) (k : AreFactsOf shared u right) where
   beside : AreAbout (IsConstant shared u) (Determines shared u) (AreEqual shared u) (columns_of u)
@@ -230,29 +185,19 @@ module _ (shared : List Facts) (results : List (List ℕ)) (t u : Expression) (l
           (record { stated = h.stated; all = h.all }) (record { stated = k.stated; all = k.all })
 
 -- the other kinds keep the facts of what is below them
-pub kept_facts : (shared : List Facts) (op : LogicOp) (t : Expression) (f : Facts) → ((e : Expr) → op ≡ Filter e → ⊥) → ((items : List Expr) (cols : List ℕ) → op ≡ Project items cols → ⊥)
+pub kept_above : (op : LogicOp) (f : Facts) → ((e : Expr) → op ≡ Filter e → ⊥) → ((items : List Expr) (cols : List ℕ) → op ≡ Project items cols → ⊥)
     → ((args : GroupArgs) → op ≡ Group args → ⊥) → ((args : GroupArgs) → op ≡ Finish args → ⊥) → ((args : GroupArgs) → op ≡ Partial args → ⊥)
-    → ((call : CallArgs) → op ≡ Process call → ⊥) → ((call : CallArgs) (on : _) (presort : _) → op ≡ Reduce call on presort → ⊥) → AreFactsOf shared t f → AreFactsOf shared (one op t) f
-kept_facts shared (Filter e) t f a b c d i j k h = absurd (a e refl)
-kept_facts shared (Project items cols) t f a b c d i j k h = absurd (b items cols refl)
-kept_facts shared (Group args) t f a b c d i j k h = absurd (c args refl)
-kept_facts shared (Finish args) t f a b c d i j k h = absurd (d args refl)
-kept_facts shared (Partial args) t f a b c d i j k h = absurd (i args refl)
-kept_facts shared (Process call) t f a b c d i j k h = absurd (j call refl)
-kept_facts shared (Reduce call on presort) t f a b c d i j k h = absurd (k call on presort refl)
-kept_facts shared op t f a b c d i j k h = record { columns = h.columns; constants = h.constants; stated = h.stated; all = h.all; equal = h.equal }
+    → ((call : CallArgs) → op ≡ Process call → ⊥) → ((call : CallArgs) (on : _) (presort : _) → op ≡ Reduce call on presort → ⊥) → IsOwn f → AreAbove op f f
+kept_above (Filter e) f a b c d i j k own = absurd (a e refl)
+kept_above (Project items cols) f a b c d i j k own = absurd (b items cols refl)
+kept_above (Group args) f a b c d i j k own = absurd (c args refl)
+kept_above (Finish args) f a b c d i j k own = absurd (d args refl)
+kept_above (Partial args) f a b c d i j k own = absurd (i args refl)
+kept_above (Process call) f a b c d i j k own = absurd (j call refl)
+kept_above (Reduce call on presort) f a b c d i j k own = absurd (k call on presort refl)
+kept_above op f a b c d i j k own = kept_named f own
 
 -- of what operators of the user's give nothing is known
-pub process_facts : (shared : List Facts) (call : CallArgs) (t : Expression) (f : Facts) → f.columns ≡ call.cols → f.constants ≡ [] → f.determined ≡ [] → ((c d : ℕ) → equal_of f c d ≡ (nat_lt c 128 && nat_eq c d))
-    → AreFactsOf shared (one (Process call) t) f
-process_facts shared call t f columns p q r =
-    let none = plain_facts shared f p q r in record { columns = columns; constants = none.0; stated = none.1; all = λ s c m. absurd m; equal = none.2 }
-
-pub reduce_facts : (shared : List Facts) (call : CallArgs) (on : _) (presort : _) (t : Expression) (f : Facts) → f.columns ≡ call.cols → f.constants ≡ [] → f.determined ≡ [] → ((c d : ℕ) → equal_of f c d ≡ (nat_lt c 128 && nat_eq c d))
-    → AreFactsOf shared (one (Reduce call on presort) t) f
-reduce_facts shared call on presort t f columns p q r =
-    let none = plain_facts shared f p q r in record { columns = columns; constants = none.0; stated = none.1; all = λ s c m. absurd m; equal = none.2 }
-
 pub combine_facts : (shared : List Facts) (call : CallArgs) (on : _) (before : _) (after : _) (t u : Expression) (f : Facts) → f.columns ≡ call.cols → f.constants ≡ [] → f.determined ≡ [] → ((c d : ℕ) → equal_of f c d ≡ (nat_lt c 128 && nat_eq c d))
     → AreFactsOf shared (two (Combine call on before after) t u) f
 combine_facts shared call on before after t u f columns p q r =

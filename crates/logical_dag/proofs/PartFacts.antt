@@ -14,6 +14,8 @@ use Rattle.logical_dag.specs.Facts.{AreFactsOf}
 use Rattle.logical_trees.specs.Blocks.{block_leaves, block_pairs, chosen}
 use Rattle.logical_dag.specs.Places.{IsPart}
 use Rattle.logical_dag.specs.BlockFacts.{AreFactsOfAll}
+use Rattle.logical_dag.proofs.KnownSteps.{kept_named}
+use Rattle.logical_dag.proofs.KnownTables.{facts_own, node_facts}
 use Rattle.logical_dag.proofs.JoinFacts.{join_facts}
 use Rattle.logical_trees.specs.LeafLemmas.{formed_sets}
 use Rattle.logical_trees.specs.BlockLemmas.{chosen_formed, chosen_none_within}
@@ -31,12 +33,12 @@ leaves_facts results shared mask (leaf op) t f formed j known = absurd j
 -- ---- the first step of a node
 
 -- the first step of a Top has the facts below
-pub local_facts : (shared : List Facts) (args : TopArgs) (u : Expression) (f : Facts) → AreFactsOf shared u f → AreFactsOf shared (one (LocalTop args) u) f
-local_facts shared args u f h = record { columns = h.columns; constants = h.constants; stated = h.stated; all = h.all; equal = h.equal }
+pub local_facts : (results : List (List ℕ)) (shared : List Facts) (args : TopArgs) (u : Expression) (f : Facts) → IsFormed results (one (LocalTop args) u) → AreFactsOf shared u f → AreFactsOf shared (one (LocalTop args) u) f
+local_facts results shared args u f formed h = node_facts shared u f results formed.0 h (LocalTop args) f formed.1 (kept_named f (facts_own shared u f h))
 
 -- a node with one child that is a Group or a Top has a first step, and no other node
-pub top_lower : (shared : List Facts) (args : TopArgs) (u t : Expression) (f : Facts) → AreFactsOf shared u f → IsPart Lower (one (Top args) u) t → AreFactsOf shared t f
-top_lower shared args u t f h e = subst (λ v. AreFactsOf shared v f) e (local_facts shared args u f h)
+pub top_lower : (results : List (List ℕ)) (shared : List Facts) (args : TopArgs) (u t : Expression) (f : Facts) → IsFormed results (one (LocalTop args) u) → AreFactsOf shared u f → IsPart Lower (one (Top args) u) t → AreFactsOf shared t f
+top_lower results shared args u t f formed h e = subst (λ v. AreFactsOf shared v f) e (local_facts results shared args u f formed h)
 
 -- an expression that is neither
 abbrev pub HasNoStep : Expression → Type 0

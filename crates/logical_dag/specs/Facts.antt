@@ -8,6 +8,7 @@ use Rattle.scope_expr.specs.declared.expr.Expr.TheVariants.{Literal, Col, Pair'}
 use Rattle.fd_closure.specs.declared.facts.Facts.{Facts}
 use Rattle.fd_closure.specs.Known.{by_of, equal_of}
 use Rattle.logical_trees.specs.declared.args.GroupArgs.{GroupArgs}
+use Rattle.logical_trees.specs.declared.logic_op.LogicOp.{LogicOp}
 use Rattle.logical_trees.specs.declared.logic_op.LogicOp.TheVariants.{Ref, Filter, Project, Join, Group, Process, Reduce, Partial, Finish}
 use Rattle.logical_trees.specs.Tree.{Expression, leaf, one, two, columns_of}
 
@@ -104,19 +105,43 @@ Lent shared i P = IsSomeAnd (slice_get shared i) P
 abbrev pub result_columns : List Facts → ℕ → List ℕ
 result_columns shared i = option_map_or (λ f. f.columns) (slice_get shared i) []
 
+-- ---- the table, by kind of node
+
+-- the name above a node of a column of the rows below it, where it keeps its values
+abbrev pub name_above : LogicOp → ℕ → Option ℕ
+name_above (Project items cols) = item_name items cols
+name_above (Group args) = key_name args.keys
+name_above (Partial args) = key_name args.keys
+name_above (Finish args) = key_name args.keys
+name_above (Process call) = λ c. None
+name_above (Reduce call on presort) = λ c. None
+name_above op = Some
+
+-- the node makes the column constant
+abbrev pub MakesConstant : LogicOp → ℕ → Type 0
+MakesConstant (Filter e) c = SetsConstant e c
+MakesConstant (Project items cols) c = (i : ℕ) × (slice_get cols i ≡ Some c) × IsSomeAnd (slice_get items i) (λ e. is_literal e ≡ true)
+MakesConstant (Group args) c = (args.keys ≡ []) × IsAggregate args c
+MakesConstant (Finish args) c = (args.keys ≡ []) × IsAggregate args c
+MakesConstant op c = ⊥
+
+-- it makes the column depend on the others
+abbrev pub MakesDependent : LogicOp → List ℕ → ℕ → Type 0
+MakesDependent (Group args) s c = (args.keys ≢ []) × (s ≡ args.keys) × IsAggregate args c
+MakesDependent (Finish args) s c = (args.keys ≢ []) × (s ≡ args.keys) × IsAggregate args c
+MakesDependent op s c = ⊥
+
+-- it makes the columns equal
+abbrev pub MakesEqual : LogicOp → ℕ → ℕ → Type 0
+MakesEqual (Filter e) c d = SetsEqual e c d
+MakesEqual (Project items cols) c d = AreSameItem items cols c d
+MakesEqual op c d = ⊥
+
 -- all rows have one value in the column
 abbrev pub IsConstant : List Facts → Expression → ℕ → Type 0
 IsConstant shared (leaf (Ref i cols)) c = Renamed (ref_name (result_columns shared i) cols) (λ b. Lent shared i (λ f. has f.constants b ≡ true)) c
 IsConstant shared (leaf op) c = ⊥
-IsConstant shared (one (Filter e) t) c = IsConstant shared t c ⊎ SetsConstant e c
-IsConstant shared (one (Project items cols) t) c =
-    Renamed (item_name items cols) (IsConstant shared t) c ⊎ ((i : ℕ) × (slice_get cols i ≡ Some c) × IsSomeAnd (slice_get items i) (λ e. is_literal e ≡ true))
-IsConstant shared (one (Group args) t) c = Renamed (key_name args.keys) (IsConstant shared t) c ⊎ ((args.keys ≡ []) × IsAggregate args c)
-IsConstant shared (one (Finish args) t) c = Renamed (key_name args.keys) (IsConstant shared t) c ⊎ ((args.keys ≡ []) × IsAggregate args c)
-IsConstant shared (one (Partial args) t) c = Renamed (key_name args.keys) (IsConstant shared t) c
-IsConstant shared (one (Process call) t) c = ⊥
-IsConstant shared (one (Reduce call on presort) t) c = ⊥
-IsConstant shared (one op t) c = IsConstant shared t c
+IsConstant shared (one op t) c = Renamed (name_above op) (IsConstant shared t) c ⊎ MakesConstant op c
 IsConstant shared (two (Join on) t u) c = IsConstant shared t c ⊎ IsConstant shared u c
 IsConstant shared (two op t u) c = ⊥
 
@@ -125,35 +150,21 @@ abbrev pub Determines : List Facts → Expression → List ℕ → ℕ → Type 
 Determines shared (leaf (Ref i cols)) s c =
     DependencyRenamed (ref_name (result_columns shared i) cols) (λ r b. Lent shared i (λ f. (has f.determined b ≡ true) × (r ≡ by_of f b))) s c
 Determines shared (leaf op) s c = ⊥
-Determines shared (one (Project items cols) t) s c = DependencyRenamed (item_name items cols) (Determines shared t) s c
-Determines shared (one (Group args) t) s c =
-    DependencyRenamed (key_name args.keys) (Determines shared t) s c ⊎ ((args.keys ≢ []) × (s ≡ args.keys) × IsAggregate args c)
-Determines shared (one (Finish args) t) s c =
-    DependencyRenamed (key_name args.keys) (Determines shared t) s c ⊎ ((args.keys ≢ []) × (s ≡ args.keys) × IsAggregate args c)
-Determines shared (one (Partial args) t) s c = DependencyRenamed (key_name args.keys) (Determines shared t) s c
-Determines shared (one (Process call) t) s c = ⊥
-Determines shared (one (Reduce call on presort) t) s c = ⊥
-Determines shared (one op t) s c = Determines shared t s c
+Determines shared (one op t) s c = DependencyRenamed (name_above op) (Determines shared t) s c ⊎ MakesDependent op s c
 Determines shared (two (Join on) t u) s c = Determines shared t s c ⊎ Determines shared u s c
 Determines shared (two op t u) s c = ⊥
 
+-- it is stated that the columns are equal
+abbrev pub IsStatedEqual : List Facts → Expression → ℕ → ℕ → Type 0
+IsStatedEqual shared (leaf (Ref i cols)) c d = BothRenamed (ref_name (result_columns shared i) cols) (λ a b. Lent shared i (λ f. equal_of f a b ≡ true)) c d
+IsStatedEqual shared (leaf op) c d = ⊥
+IsStatedEqual shared (one op t) c d = BothRenamed (name_above op) (IsLinked (IsStatedEqual shared t)) c d ⊎ MakesEqual op c d
+IsStatedEqual shared (two (Join on) t u) c d = IsLinked (IsStatedEqual shared t) c d ⊎ (IsLinked (IsStatedEqual shared u) c d ⊎ Contains on.items (c, d))
+IsStatedEqual shared (two op t u) c d = ⊥
+
 -- each row has one value in both columns; each column is equal to itself
 abbrev pub AreEqual : List Facts → Expression → ℕ → ℕ → Type 0
-AreEqual shared (leaf (Ref i cols)) c d =
-    IsLinked (BothRenamed (ref_name (result_columns shared i) cols) (λ a b. Lent shared i (λ f. equal_of f a b ≡ true))) c d
-AreEqual shared (leaf op) c d = c ≡ d
-AreEqual shared (one (Filter e) t) c d = IsLinked (λ a b. AreEqual shared t a b ⊎ SetsEqual e a b) c d
-AreEqual shared (one (Project items cols) t) c d =
-    IsLinked (λ a b. BothRenamed (item_name items cols) (AreEqual shared t) a b ⊎ AreSameItem items cols a b) c d
-AreEqual shared (one (Group args) t) c d = IsLinked (BothRenamed (key_name args.keys) (AreEqual shared t)) c d
-AreEqual shared (one (Finish args) t) c d = IsLinked (BothRenamed (key_name args.keys) (AreEqual shared t)) c d
-AreEqual shared (one (Partial args) t) c d = IsLinked (BothRenamed (key_name args.keys) (AreEqual shared t)) c d
-AreEqual shared (one (Process call) t) c d = c ≡ d
-AreEqual shared (one (Reduce call on presort) t) c d = c ≡ d
-AreEqual shared (one op t) c d = AreEqual shared t c d
-AreEqual shared (two (Join on) t u) c d =
-    IsLinked (λ a b. AreEqual shared t a b ⊎ (AreEqual shared u a b ⊎ Contains on.items (a, b))) c d
-AreEqual shared (two op t u) c d = c ≡ d
+AreEqual shared t = IsLinked (IsStatedEqual shared t)
 
 -- the facts are those of the expression, where these are lent for the shared results
 pub record AreFactsOf (shared : List Facts) (t : Expression) (f : Facts) : Type 0 where

@@ -1,15 +1,14 @@
 -- What the steps by which the facts of an expression are found promise each other.
-use Rattle.std.specs.Prelude.{◌≡◌, ◌≢◌, ◌↔◌, ◌⊎◌, ◌<◌, ℕ, true, false, List, [], slice_get, slice_index_or, Option, Some, None, IfSome, IsSomeAnd, Contains}
+use Rattle.std.specs.Prelude.{◌≡◌, ◌↔◌, ◌⊎◌, ◌<◌, ℕ, true, false, List, [], slice_get, slice_index_or, Option, Some, None, IfSome, IsSomeAnd, Contains}
 use Rattle.col_sets.specs.Sets.{has, union, IsColumnSet}
 use Rattle.scope_expr.specs.declared.expr.Expr.{Expr}
 use Rattle.fd_closure.specs.declared.facts.Facts.{Facts}
 use Rattle.fd_closure.specs.Known.{by_of, equal_of, IsMerged}
-use Rattle.logical_trees.specs.declared.args.GroupArgs.{GroupArgs}
 use Rattle.logical_trees.specs.declared.logic_op.LogicOp.{LogicOp}
 use Rattle.logical_trees.specs.declared.logic_op.LogicOp.TheVariants.{Ref, Join}
 use Rattle.logical_dag.specs.declared.naming.Names.{Names}
-use Rattle.logical_trees.specs.Tree.{Expression, leaf, one, two, group_columns}
-use Rattle.logical_dag.specs.Facts.{IsLinked, Renamed, BothRenamed, DependencyRenamed, is_column, is_literal, item_name, key_name, AreSameItem, IsAggregate, AreFactsOf}
+use Rattle.logical_trees.specs.Tree.{Expression, leaf, one, two, one_columns}
+use Rattle.logical_dag.specs.Facts.{IsLinked, Renamed, BothRenamed, DependencyRenamed, is_column, key_name, name_above, MakesConstant, MakesDependent, MakesEqual, AreFactsOf}
 use Rattle.logical_trees.specs.Formed.{IsFormed}
 use Rattle.logical_dag.specs.Laws.{lent_columns}
 
@@ -103,27 +102,20 @@ IsItemEquated items cols j into f =
     ((f ≡ into) × ((k b d : ℕ) → k < j → slice_get cols j ≡ Some d → IsItem items k b → IsItem items j b → ⊥))
     ⊎ ((i b c d : ℕ) × (i < j) × (slice_get cols i ≡ Some c) × (slice_get cols j ≡ Some d) × IsItem items i b × IsItem items j b × IsMerged into c d f)
 
+-- f has the facts of from under new names, and these
+pub record AreNamed (name : ℕ → Option ℕ) (C : ℕ → Type 0) (D : List ℕ → ℕ → Type 0) (E : ℕ → ℕ → Type 0) (cols : List ℕ) (from f : Facts) : Type 0 where
+  pub columns : f.columns ≡ cols
+  pub constants : AreConstants f (λ c. Renamed name (λ b. has from.constants b ≡ true) c ⊎ C c)
+  pub dependencies : AreDependencies f (λ s c. DependencyRenamed name (IsDependency from) s c ⊎ D s c)
+  pub classes : AreClasses f (λ c d. BothRenamed name (λ a b. equal_of from a b ≡ true) c d ⊎ E c d)
+
 -- f has just the facts of from under new names
-pub record AreRenamed (from : Facts) (name : ℕ → Option ℕ) (cols : List ℕ) (f : Facts) : Type 0 where
-  pub columns : f.columns ≡ cols
-  pub constants : AreConstants f (Renamed name (λ b. has from.constants b ≡ true))
-  pub dependencies : AreDependencies f (DependencyRenamed name (IsDependency from))
-  pub classes : AreClasses f (BothRenamed name (λ a b. equal_of from a b ≡ true))
+abbrev pub AreRenamed : Facts → (ℕ → Option ℕ) → List ℕ → Facts → Type 0
+AreRenamed from name cols f = AreNamed name (λ c. ⊥) (λ s c. ⊥) (λ c d. ⊥) cols from f
 
--- f has the facts below a projection under the names of its items, its literals, and its items that are one column
-pub record AreProjected (items : List Expr) (cols : List ℕ) (from f : Facts) : Type 0 where
-  pub columns : f.columns ≡ cols
-  pub constants : AreConstants f (λ c. Renamed (item_name items cols) (λ b. has from.constants b ≡ true) c
-      ⊎ ((i : ℕ) × (slice_get cols i ≡ Some c) × IsSomeAnd (slice_get items i) (λ e. is_literal e ≡ true)))
-  pub dependencies : AreDependencies f (DependencyRenamed (item_name items cols) (IsDependency from))
-  pub classes : AreClasses f (λ c d. BothRenamed (item_name items cols) (λ a b. equal_of from a b ≡ true) c d ⊎ AreSameItem items cols c d)
-
--- f has the facts below a grouping of its key, and those of its aggregates
-pub record AreGrouped (args : GroupArgs) (from f : Facts) : Type 0 where
-  pub columns : f.columns ≡ group_columns args
-  pub constants : AreConstants f (λ c. Renamed (key_name args.keys) (λ b. has from.constants b ≡ true) c ⊎ ((args.keys ≡ []) × IsAggregate args c))
-  pub dependencies : AreDependencies f (λ s c. DependencyRenamed (key_name args.keys) (IsDependency from) s c ⊎ ((args.keys ≢ []) × (s ≡ args.keys) × IsAggregate args c))
-  pub classes : AreClasses f (BothRenamed (key_name args.keys) (λ a b. equal_of from a b ≡ true))
+-- f has the facts of from under their names above the node, and those that the node makes
+abbrev pub AreAbove : LogicOp → Facts → Facts → Type 0
+AreAbove op from f = AreNamed (name_above op) (MakesConstant op) (MakesDependent op) (MakesEqual op) (one_columns op from.columns) from f
 
 -- f has the facts of both sides, and those of the pairs
 pub record AreJoined (on : List (ℕ × ℕ)) (left right f : Facts) : Type 0 where

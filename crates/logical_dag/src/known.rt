@@ -2,11 +2,12 @@
 // works them out in one place, and what holds facts by value is not inlined, so that no level's frame has room for them.
 ghost use Rattle.std.specs.Prelude.{◌<◌, All, Some};
 ghost use Rattle.col_sets.specs.Sets.{IsColumnSet};
+ghost use Rattle.logical_trees.specs.declared.logic_op.LogicOp.TheVariants.{Project, Group};
 ghost use Rattle.logical_trees.specs.Tree as tree;
 ghost use Rattle.logical_trees.specs.Tree.{leaf, tree_of};
 ghost use Rattle.logical_trees.specs.Formed.{IsFormed, IsOver, IsGroup, IsOneFormed, IsTwoFormed};
 ghost use Rattle.logical_dag.specs.Facts.{ref_name, key_name, AreFactsOf};
-ghost use Rattle.logical_dag.specs.Known.{IsLentSet, name_of, IsNaming, IsOwn, AreRenamed, AreProjected, AreGrouped, AreJoined, AreApart, AreFactsAbove, AreFactsOver, IsJoinApart, IsLeftOf, AreFactsBeside};
+ghost use Rattle.logical_dag.specs.Known.{IsLentSet, name_of, IsNaming, IsOwn, AreRenamed, AreAbove, AreJoined, AreApart, AreFactsAbove, AreFactsOver, IsJoinApart, IsLeftOf, AreFactsBeside};
 ghost use Rattle.logical_dag.specs.Laws.{lent_columns, HoldOf, DoFactsHold};
 
 use crate::carried::{carried, with_equalities, with_same_dependencies};
@@ -50,7 +51,7 @@ fn referred(lent: &Facts, cols: ColSet) -> Facts
 fn projected(items: &[Expr], cols: ColSet, below: &Facts) -> Facts
     requires set { IsColumnSet cols }
     requires over { All (IsOver below.now.columns) items.now }
-    ensures { AreProjected items.now cols below.now result }
+    ensures { AreAbove (Project items.now cols) below.now result }
 {
     is_ascending(below.columns);
     let names = item_names(items, cols);
@@ -70,7 +71,7 @@ pub(crate) fn keyed(args: &GroupArgs, below: &Facts) -> Facts
 // The facts above a grouping.
 fn grouped(args: &GroupArgs, below: &Facts) -> Facts
     requires { IsGroup args.now }
-    ensures { AreGrouped args.now below.now result }
+    ensures { AreAbove (Group args.now) below.now result }
 {
     let key = keyed(args, below);
     if args.keys.count() == 0 {

@@ -19,5 +19,5 @@ returns c =
     (names_are c.item_names-names.result (item_name c.args.items.now c.args.cols) places c.item_names-names.ensures (item_low c.args.below.now.columns c.args.items.now c.args.cols c.is_ascending.ensures c.requires.over))
     c.renamed-plain.ensures
     in
-    projected_all c.args.items.now c.args.cols c.args.below.now c.renamed-plain.result c.with_literals.result c.with_same_items.result plain c.with_literals.ensures.rest c.with_same_items.ensures.rest
+    projected_all c.args.items.now c.args.cols c.args.below.now c.renamed-plain.result c.with_literals.result c.with_same_items.result c.requires.set plain c.with_literals.ensures.rest c.with_same_items.ensures.rest
     c.with_literals.ensures.constants c.with_same_items.ensures.classes
