@@ -16,10 +16,10 @@ use Rattle.scope_expr.specs.declared.expr.Expr.{Expr}
 use Rattle.scope_expr.specs.Value.{value, holds, is_true}
 use Rattle.logical_trees.specs.Rows.{Row, row_over, projected, agree_on, merged, argument}
 use Rattle.logical_trees.specs.RowLemmas.{map_members}
-use Rattle.column_ranks.specs.Moved.{moved, HasRanks}
+use Rattle.scope_expr.specs.Moved.{HasRanks, moved}
 use Rattle.column_ranks.specs.Rising.{IsRising}
 use Rattle.column_ranks.specs.RisingLemmas.{rising_from, rising_below, rising_append, rank_below, union_append}
-use Rattle.column_ranks.specs.ValueLemmas.{value_moved}
+use Rattle.scope_expr.specs.ValueLemmas.{value_moved}
 
 -- a map of a map
 pub map_twice : {X Y Z : Type 0} (f : X → Y) (g : Y → Z) (h : X → Z) → ((x : X) → g (f x) ≡ h x) → (xs : List X) → map g (map f xs) ≡ map h xs

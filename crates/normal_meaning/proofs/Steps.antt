@@ -22,8 +22,10 @@ use Rattle.logical_trees.specs.GroupLemmas.{grouped_permuted, joined_permuted}
 use Rattle.logical_trees.specs.GroupRowLemmas.{group_row-key}
 use Rattle.logical_trees.specs.RowLemmas.{value_over}
 use Rattle.logical_trees.specs.SameLemmas.{same_itself, same_turned, same_then, same_below, same_beside}
-use Rattle.normal_meaning.specs.Sinking.{each_column, is_keyed, passes, below, goes_to}
-use Rattle.normal_meaning.proofs.Values.{holds_same, holds_and, holds_below}
+use Rattle.normal_meaning.specs.Sinking.{is_keyed, passes, below, goes_to}
+use Rattle.normal_meaning.proofs.Values.{holds_same, holds_below}
+use Rattle.scope_expr.specs.Moved.{each_column}
+use Rattle.scope_expr.specs.ValueLemmas.{holds_and}
 use Rattle.normal_meaning.proofs.Lists.{filter_made, made_same, filter_right, filter_left, distinct_passes, filter_within}
 
 -- ---- over one child

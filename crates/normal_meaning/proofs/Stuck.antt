@@ -10,8 +10,8 @@ use Rattle.scope_expr.specs.declared.expr.Expr.TheVariants.{Literal, Col, Neg', 
 use Rattle.logical_trees.specs.declared.logic_op.LogicOp.{LogicOp}
 use Rattle.logical_trees.specs.declared.logic_op.LogicOp.TheVariants.{Filter, Project, Group}
 use Rattle.logical_trees.specs.Tree.{Expression, leaf, one, two, columns_of}
-use Rattle.column_ranks.specs.Moved.{with_columns}
-use Rattle.normal_meaning.specs.Sinking.{conjuncts, each_column, is_simple, has_simple, item_for, passes, below, goes_to, can_sink, sink, sink_all, normal}
+use Rattle.normal_meaning.specs.Sinking.{conjuncts, is_simple, has_simple, item_for, passes, below, goes_to, can_sink, sink, sink_all, normal}
+use Rattle.scope_expr.specs.Moved.{each_column, with_columns}
 use Rattle.normal_meaning.specs.Normal.{is_conjunct, IsChain, is_filter, AreStuck, IsNormal}
 use Rattle.normal_meaning.proofs.Sunk.{columns_sink, sink_all_append, pair_is}
 

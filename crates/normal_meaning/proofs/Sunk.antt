@@ -14,10 +14,12 @@ use Rattle.logical_trees.specs.Tree.{Expression, leaf, one, two, one_columns, tw
 use Rattle.logical_trees.specs.Meaning.{SameBags}
 use Rattle.logical_trees.specs.Formed.{IsFormed, IsOneFormed, IsTwoFormed, IsOver}
 use Rattle.logical_trees.specs.ColumnLemmas.{columns_set}
-use Rattle.normal_meaning.specs.Sinking.{conjuncts, each_column, is_keyed, passes, below, goes_to, can_sink, sink, sink_all, normal}
-use Rattle.normal_meaning.proofs.Values.{each_passes, each_gives, over_both, over_below}
+use Rattle.normal_meaning.specs.Sinking.{conjuncts, is_keyed, passes, below, goes_to, can_sink, sink, sink_all, normal}
+use Rattle.normal_meaning.proofs.Values.{over_both, over_below}
 use Rattle.normal_meaning.proofs.Steps.{filters_same, filters_joined, passed_same, left_same, right_same}
 use Rattle.logical_trees.specs.SameLemmas.{same_itself, same_then, same_below, same_beside}
+use Rattle.scope_expr.specs.Moved.{each_column}
+use Rattle.scope_expr.specs.ValueLemmas.{each_gives, each_passes}
 
 -- ---- columns
 

@@ -9,7 +9,7 @@ use Rattle.scope_expr.specs.declared.expr.Expr.{Expr, end_of-Expr, more_of-Expr}
 use Rattle.scope_expr.specs.declared.expr.Expr.TheBlock.{shape-the_row-Expr-0, hidden-the_row-Expr-0}
 use Rattle.scope_expr.specs.declared.expr.Expr.TheVariants.{Literal, Col, Neg', Not', Pair'}
 use Rattle.scope_expr.specs.Kinds.{EachColumn, is_typed, kind_of, is_null, is_number, is_truth, are_alike, are_comparable, are_operands, takes_number, takes_truth}
-use Rattle.column_ranks.specs.Moved.{with_columns}
+use Rattle.scope_expr.specs.Moved.{with_columns}
 use Rattle.normal_meaning.specs.Typed.{KeepsPredicate, JoinsPredicates}
 
 -- d may stand where e does: it has its type, and is null where e is

@@ -18,48 +18,17 @@ use Rattle.scope_expr.specs.Value.{value, holds, column_value, negated, combined
 use Rattle.scope_expr.specs.Kinds.{EachColumn}
 use Rattle.logical_trees.specs.Rows.{Row, projected}
 use Rattle.logical_trees.specs.Formed.{IsOver}
-use Rattle.column_ranks.specs.Moved.{with_columns}
-use Rattle.column_ranks.specs.ValueLemmas.{value_with}
-use Rattle.normal_meaning.specs.Sinking.{each_column, is_simple, has_simple, item_for}
+use Rattle.normal_meaning.specs.Sinking.{is_simple, has_simple, item_for}
+use Rattle.scope_expr.specs.Moved.{each_column, with_columns}
+use Rattle.scope_expr.specs.ValueLemmas.{each_gives, each_passes, value_same, value_with}
 
 -- ---- each column
-
--- a test that each column passes is a fact of each column
-pub each_passes : (p : ℕ → Bool) (e : Expr) → each_column p e ≡ true → EachColumn (λ c k. p c ≡ true) e
-each_passes p (Literal v) h = tt
-each_passes p (Col c k) h = h
-each_passes p (Neg' s (more_of-Expr a end_of-Expr)) h = each_passes p a h
-each_passes p (Not' s (more_of-Expr a end_of-Expr)) h = each_passes p a h
-each_passes p (Pair' op s (more_of-Expr a end_of-Expr) t (more_of-Expr b end_of-Expr)) h =
-    let parts = both (each_column p a) (each_column p b) h in (each_passes p a parts.0, each_passes p b parts.1)
-
--- a fact of each column gives another
-pub each_gives : (P Q : ℕ → ColType → Type 0) → ((c : ℕ) (k : ColType) → P c k → Q c k) → (e : Expr) → EachColumn P e → EachColumn Q e
-each_gives P Q f (Literal v) h = tt
-each_gives P Q f (Col c k) h = f c k h
-each_gives P Q f (Neg' s (more_of-Expr a end_of-Expr)) h = each_gives P Q f a h
-each_gives P Q f (Not' s (more_of-Expr a end_of-Expr)) h = each_gives P Q f a h
-each_gives P Q f (Pair' op s (more_of-Expr a end_of-Expr) t (more_of-Expr b end_of-Expr)) h = (each_gives P Q f a h.0, each_gives P Q f b h.1)
-
--- the value hangs on the columns' values alone
-pub value_same : (cols base : List ℕ) (row other : Row) (e : Expr) → EachColumn (λ c k. value_at cols row c ≡ value_at base other c) e → value e cols row ≡ value e base other
-value_same cols base row other (Literal v) h = refl
-value_same cols base row other (Col c k) h = h
-value_same cols base row other (Neg' s (more_of-Expr a end_of-Expr)) h = ap negated (value_same cols base row other a h)
-value_same cols base row other (Not' s (more_of-Expr a end_of-Expr)) h = ap (λ v. Truth (not (is_true v))) (value_same cols base row other a h)
-value_same cols base row other (Pair' op s (more_of-Expr a end_of-Expr) t (more_of-Expr b end_of-Expr)) h =
-    ap₂ (combined op) (value_same cols base row other a h.0) (value_same cols base row other b h.1)
 
 -- where each column's test implies that its values are alike, the predicate holds of both rows or of neither
 pub holds_same : (p : ℕ → Bool) (cols base : List ℕ) (row other : Row) → ((c : ℕ) → p c ≡ true → value_at cols row c ≡ value_at base other c) → (e : Expr) → each_column p e ≡ true
     → holds e cols row ≡ holds e base other
 holds_same p cols base row other same e h =
     ap is_true (value_same cols base row other e (each_gives (λ c k. p c ≡ true) (λ c k. value_at cols row c ≡ value_at base other c) (λ c k q. same c q) e (each_passes p e h)))
-
--- `&&` holds where both sides do
-pub holds_and : (f e : Expr) (cols : List ℕ) (row : Row) → holds (Pair And f e) cols row ≡ (holds f cols row && holds e cols row)
-unfolding shape-the_row-Expr-0 hidden-the_row-Expr-0 hidden
-holds_and f e cols row = refl
 
 -- ---- items in place of columns
 

@@ -9,20 +9,12 @@ use Rattle.scope_expr.specs.declared.expr.Expr.TheVariants.{Literal, Col, Neg', 
 use Rattle.logical_trees.specs.declared.logic_op.LogicOp.{LogicOp}
 use Rattle.logical_trees.specs.declared.logic_op.LogicOp.TheVariants.{Filter, Project, Join, Group}
 use Rattle.logical_trees.specs.Tree.{Expression, leaf, one, two, columns_of}
-use Rattle.column_ranks.specs.Moved.{with_columns}
+use Rattle.scope_expr.specs.Moved.{each_column, with_columns}
 
 -- the conjuncts of a predicate, whose `&&` are taken apart
 abbrev pub conjuncts : Expr → List Expr
 conjuncts (Pair' And s (more_of-Expr a end_of-Expr) t (more_of-Expr b end_of-Expr)) = conjuncts a ++ conjuncts b
 conjuncts e = e ∷ []
-
--- each column of the expression passes
-abbrev pub each_column : (ℕ → Bool) → Expr → Bool
-each_column p (Literal v) = true
-each_column p (Col c k) = p c
-each_column p (Neg' s (more_of-Expr a end_of-Expr)) = each_column p a
-each_column p (Not' s (more_of-Expr a end_of-Expr)) = each_column p a
-each_column p (Pair' op s (more_of-Expr a end_of-Expr) t (more_of-Expr b end_of-Expr)) = each_column p a && each_column p b
 
 -- a plain column or a literal
 abbrev pub is_simple : Expr → Bool

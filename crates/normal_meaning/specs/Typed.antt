@@ -5,7 +5,7 @@ use Rattle.script_trees.specs.declared.op.PairOp.TheVariants.{And}
 use Rattle.scope_expr.specs.declared.expr.Expr.{Expr}
 use Rattle.scope_expr.specs.declared.expr.Expr.TheVariants.{Pair}
 use Rattle.scope_expr.specs.Kinds.{EachColumn, is_typed, kind_of, takes_truth}
-use Rattle.column_ranks.specs.Moved.{with_columns}
+use Rattle.scope_expr.specs.Moved.{with_columns}
 
 -- a typed predicate
 abbrev pub IsPredicate : Expr → Type 0

@@ -1,27 +1,12 @@
 -- What the definitions over typed expressions give, by the constructors that the code uses.
-use Rattle.std.proofs.Common.{◌≡◌, refl, ℕ, List, ◌&&◌, not}
+use Rattle.std.proofs.Common.{◌≡◌, refl, ◌&&◌}
 use denote.Hole.Carrier.{hidden}
-use Rattle.scope_value.specs.declared.value.Value.{Value}
-use Rattle.scope_value.specs.declared.value.Value.TheVariants.{Bool as Truth}
 use Rattle.scope_value.specs.declared.schema.ColType.TheVariants.{Long, Bool as Truths}
 use Rattle.script_trees.specs.declared.op.PairOp.{PairOp}
 use Rattle.scope_expr.specs.declared.expr.Expr.{Expr}
 use Rattle.scope_expr.specs.declared.expr.Expr.TheBlock.{shape-the_row-Expr-0, hidden-the_row-Expr-0}
 use Rattle.scope_expr.specs.declared.expr.Expr.TheVariants.{Neg, Not, Pair}
-use Rattle.scope_expr.specs.Value.{value, negated, combined, is_true}
 use Rattle.scope_expr.specs.Kinds.{kind_of, op_kind, is_typed, takes_number, takes_truth, are_operands}
-
-pub value_neg : (a : Expr) (cols : List ℕ) (row : List Value) → value (Neg a) cols row ≡ negated (value a cols row)
-unfolding shape-the_row-Expr-0 hidden-the_row-Expr-0 hidden
-value_neg a cols row = refl
-
-pub value_not : (a : Expr) (cols : List ℕ) (row : List Value) → value (Not a) cols row ≡ Truth (not (is_true (value a cols row)))
-unfolding shape-the_row-Expr-0 hidden-the_row-Expr-0 hidden
-value_not a cols row = refl
-
-pub value_pair : (op : PairOp) (a b : Expr) (cols : List ℕ) (row : List Value) → value (Pair op a b) cols row ≡ combined op (value a cols row) (value b cols row)
-unfolding shape-the_row-Expr-0 hidden-the_row-Expr-0 hidden
-value_pair op a b cols row = refl
 
 pub kind_neg : (a : Expr) → kind_of (Neg a) ≡ Long
 unfolding shape-the_row-Expr-0 hidden-the_row-Expr-0 hidden

@@ -1,4 +1,6 @@
 mod ExprLemmas
-mod FitLemmas
+pub mod FitLemmas
+mod MovedLemmas
 mod RawLemmas
 mod ScopeLemmas
+mod SightLemmas

@@ -1,5 +1,9 @@
 pub mod Held
 pub mod Kinds
+pub mod Aggs
 pub mod Laws
+pub mod Moved
 pub mod Names
+pub mod Sight
 pub mod Value
+pub mod ValueLemmas

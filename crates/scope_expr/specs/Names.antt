@@ -1,6 +1,5 @@
 -- Columns by name: which are unknown, which ambiguous, and what an expression is with its columns by number.
-use Rattle.std.specs.Prelude.{ℕ, Bool, true, false, not, ◌&&◌, ◌||◌, if◌then◌else◌, List, length, nat_eq, nat_lt, slice_get, find, count_by, Option, Some, None, is_some, Result, Ok, Err}
-use Rattle.std.specs.Cmp.Lexicographic.{pointwise}
+use Rattle.std.specs.Prelude.{ℕ, Bool, true, false, not, ◌&&◌, ◌||◌, if◌then◌else◌, List, length, nat_lt, slice_get, find, count_by, Option, Some, None, is_some, Result, Ok, Err}
 use Rattle.scope_value.specs.declared.value.Value.TheVariants as value
 use Rattle.scope_value.specs.declared.schema.ColType.{ColType}
 use Rattle.script_trees.specs.declared.raw.RawRef.{RawRef}
@@ -13,16 +12,7 @@ use Rattle.scope_expr.specs.declared.scope.Scope.{Scope}
 use Rattle.scope_expr.specs.declared.scope.TypeFault.{TypeFault}
 use Rattle.scope_expr.specs.declared.scope.TypeFault.TheVariants.{Unknown, Ambiguous, Mismatch}
 use Rattle.scope_expr.specs.Kinds.{is_typed}
-
--- a column without alias goes with every source, one with an alias with the source of that alias
-abbrev pub is_of : Option (List ℕ) → Option (List ℕ) → Bool
-is_of None source = true
-is_of (Some alias) None = false
-is_of (Some alias) (Some source) = pointwise nat_eq alias source
-
--- the entry is a column of that name
-abbrev pub is_named : RawRef → Entry → Bool
-is_named r entry = pointwise nat_eq r.name entry.name && is_of r.alias entry.alias
+pub use Rattle.scope_expr.specs.Sight.{is_of, is_named}
 
 -- the column that a reference names
 abbrev pub column_of : Scope → RawRef → Option Entry

@@ -20,7 +20,7 @@ fn column<'a>(col: ColId, cols: ColSet, row: &'a Row) -> Held<'a>
     }
 }
 
-#[tactic(auto, using(crate::proofs::ExprLemmas::value_neg, crate::proofs::ExprLemmas::value_not, crate::proofs::ExprLemmas::value_pair))]
+#[tactic(auto, using(crate::specs::ValueLemmas::value_neg, crate::specs::ValueLemmas::value_not, crate::specs::ValueLemmas::value_pair))]
 fn held<'a>(e: &'a Expr, cols: ColSet, row: &'a Row) -> Held<'a>
     ensures { seen result ≡ value e.now cols row.now }
 {

@@ -5,26 +5,11 @@ ghost use Rattle.scope_expr.specs.Names as spec;
 
 use crate::expr::Expr;
 use crate::scope::{Entry, Scope};
-use scope_value::{Cell, Value};
 use script_trees::{RawExpr, RawRef};
+use crate::sight::is_named;
+use scope_value::Value;
 use sqlite_items::Boxed;
 use std::alloc::{AllocError, Global};
-
-fn is_of(alias: &Option<Cell>, source: &Option<Cell>) -> bool
-    ensures { result ≡ spec.is_of alias.now source.now }
-{
-    match (alias, source) {
-        (None, _) => true,
-        (Some(_), None) => false,
-        (Some(alias), Some(source)) => alias == source,
-    }
-}
-
-fn is_named(r: &RawRef, entry: &Entry) -> bool
-    ensures { result ≡ spec.is_named r.now entry.now }
-{
-    r.name == entry.name && is_of(&r.alias, &entry.alias)
-}
 
 fn column_of<'a>(names: &'a Scope, r: &RawRef) -> Option<&'a Entry>
     ensures { option_copied result ≡ spec.column_of names.now r.now }

@@ -17,7 +17,7 @@ use Rattle.logical_trees.specs.declared.logic_op.LogicOp.TheVariants.{Filter, Pr
 use Rattle.logical_trees.specs.Tree.{Expression, one, two, nodes, columns_of, fresh_columns, numbered_columns}
 use Rattle.logical_trees.specs.Formed.{IsWhole, IsFormed, IsOneFormed, IsTwoFormed}
 use Rattle.logical_dag.specs.Scripts.{top_of, is_step, scan_of, scans_of}
-use Rattle.column_ranks.specs.Moved.{moved}
+use Rattle.scope_expr.specs.Moved.{moved}
 use Rattle.column_ranks.specs.Rising.{IsRising}
 use Rattle.column_ranks.specs.RisingLemmas.{rising_range}
 use Rattle.script_meaning.specs.Script.{Call, Grouping, Query}

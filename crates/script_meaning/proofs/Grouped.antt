@@ -14,7 +14,7 @@ use Rattle.scope_expr.specs.declared.expr.Expr.{Expr}
 use Rattle.logical_trees.specs.declared.agg.Agg.{Agg}
 use Rattle.logical_trees.specs.Rows.{Row, Bag, row_over, with_key, exact, fitted, whole_value, agg_at, group_row, group_keys, grouped}
 use Rattle.list_lemmas.specs.Distinct.{distinct}
-use Rattle.column_ranks.specs.Moved.{moved, HasRanks}
+use Rattle.scope_expr.specs.Moved.{HasRanks, moved}
 use Rattle.column_ranks.specs.Rising.{IsRising}
 use Rattle.column_ranks.specs.RisingLemmas.{rising_from, rising_below, rising_append, rising_range, union_append}
 use Rattle.logical_trees.specs.RowLemmas.{map_members}

@@ -10,7 +10,7 @@ use Rattle.user_ops.specs.Told.{Operators, reduces_at, combines_at}
 use Rattle.logical_trees.specs.declared.args.CallArgs.{CallArgs}
 use Rattle.logical_trees.specs.Rows.{Row, Bag, with_key, keys_among, in_order, order_of, reduced, left_columns, right_columns, keys_of_both, combined}
 use Rattle.list_lemmas.specs.Distinct.{distinct}
-use Rattle.column_ranks.specs.Moved.{HasRanks}
+use Rattle.scope_expr.specs.Moved.{HasRanks}
 use Rattle.column_ranks.specs.RowLemmas.{key_moved, items_moved}
 use Rattle.script_meaning.specs.Part.{order_at}
 

@@ -14,7 +14,7 @@ use Rattle.scope_expr.specs.declared.expr.Expr.TheVariants.{Literal, Col, Neg', 
 use Rattle.logical_trees.specs.declared.agg.Agg.{Agg}
 use Rattle.logical_trees.specs.Rows.{order_of}
 use Rattle.logical_trees.specs.Formed.{IsOver, IsArgumentOver, IsOrderOver, IsGroup, IsCall, IsJoin}
-use Rattle.column_ranks.specs.Moved.{moved}
+use Rattle.scope_expr.specs.Moved.{moved}
 use Rattle.column_ranks.specs.Rising.{IsRising}
 use Rattle.column_ranks.specs.RisingLemmas.{rising_le, rising_from, rising_below, rising_set, rising_range}
 use Rattle.script_meaning.specs.Script.{Call}

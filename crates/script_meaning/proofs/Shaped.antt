@@ -12,7 +12,7 @@ use Rattle.logical_dag.specs.declared.dag.ScanDecl.{ScanDecl}
 use Rattle.logical_trees.specs.declared.logic_op.LogicOp.{LogicOp}
 use Rattle.logical_trees.specs.declared.logic_op.LogicOp.TheVariants.{Filter, Project, Group, Process, Reduce, Top}
 use Rattle.logical_trees.specs.Tree.{two, one_columns, two_columns, columns_of}
-use Rattle.column_ranks.specs.Moved.{moved}
+use Rattle.scope_expr.specs.Moved.{moved}
 use Rattle.column_ranks.specs.Rising.{IsRising}
 use Rattle.column_ranks.specs.RisingLemmas.{rising_append, rising_shift, rising_range, rising_filter, union_append}
 use Rattle.column_ranks.specs.Picked.{picked}

@@ -19,7 +19,7 @@ use Rattle.logical_trees.specs.declared.logic_op.LogicOp.TheVariants.{Filter, Pr
 use Rattle.logical_trees.specs.Tree.{columns_of}
 use Rattle.logical_trees.specs.Rows.{Row, Bag, agree_on, merged}
 use Rattle.logical_trees.specs.Meaning.{Sources, bag_at, GivesOne, GivesTwo, StandsFor}
-use Rattle.column_ranks.specs.Moved.{moved, HasRanks}
+use Rattle.scope_expr.specs.Moved.{HasRanks, moved}
 use Rattle.column_ranks.specs.Rising.{IsRising}
 use Rattle.column_ranks.specs.RisingLemmas.{rising_range, rank_at, rank_shift}
 use Rattle.list_lemmas.specs.Bags.{same_permuted}

@@ -9,8 +9,8 @@ use Rattle.logical_dag.specs.declared.dag.ScanDecl.{ScanDecl}
 use Rattle.logical_trees.specs.declared.logic_op.LogicOp.{LogicOp}
 use Rattle.logical_trees.specs.declared.logic_op.LogicOp.TheVariants.{Scan, Ref, Filter, Project, Join, Group, Process, Reduce, Combine, Top}
 use Rattle.logical_trees.specs.Tree.{Expression, leaf, one, two}
-use Rattle.column_ranks.specs.Moved.{moved}
 use Rattle.logical_trees.specs.declared.args.CallArgs.{CallArgs}
+use Rattle.scope_expr.specs.Moved.{moved}
 use Rattle.script_meaning.specs.Script.{Call, Grouping, Query}
 use Rattle.script_meaning.specs.Meaning.{key_places, order_list}
 

@@ -2,7 +2,8 @@
 
 use col_sets::ColSet;
 use scope_expr::{
-    Entry, Expr, PairOp, RawExpr, RawRef, Scope, TypeFault, eval, holds, kind_of, typed,
+    AggKind, Entry, Expr, PairOp, RawExpr, RawRef, Scope, TypeFault, agg_kind, agg_takes, eval,
+    holds, kind_of, typed,
 };
 use scope_value::{Cell, ColType, Row, Value};
 use sqlite_items::{Boxed, Items};
@@ -188,18 +189,93 @@ fn entry_of(alloc: Global, text: &str, id: u32, kind: ColType) -> Result<Entry, 
 
 // `s.n:int`, `s.t:string`, `u.n:long` and `f:bool`, and one aggregate, a long.
 fn scope_of(alloc: Global) -> Result<Scope, AllocError> {
-    let mut entries = Items::new(alloc);
+    let mut names = Scope::new(alloc);
     for (text, id, kind) in [
         ("s.n", 0, ColType::Int),
         ("s.t", 1, ColType::Text),
         ("u.n", 2, ColType::Long),
         ("f", 3, ColType::Bool),
     ] {
-        entries.push(entry_of(alloc, text, id, kind)?)?;
+        let _added = names.add(entry_of(alloc, text, id, kind)?)?;
     }
-    let mut aggs = Items::new(alloc);
-    aggs.push((9, ColType::Long))?;
-    Ok(Scope { entries, aggs })
+    names.add_agg(9, ColType::Long)?;
+    Ok(names)
+}
+
+// The first column that is put in sight, or isn't, against the table.
+fn wrong_sight(alloc: Global) -> Result<Option<usize>, AllocError> {
+    let mut names = scope_of(alloc)?;
+    let table = [
+        ("s.n", false),
+        ("s.m", true),
+        ("t.n", true),
+        ("t.n", false),
+        ("f", true),
+        ("n", true),
+    ];
+    for (at, (text, want)) in table.iter().enumerate() {
+        if names.add(entry_of(alloc, text, 20, ColType::Long)?)? != *want {
+            return Ok(Some(at));
+        }
+    }
+    Ok(None)
+}
+
+#[test]
+fn names_in_sight_are_distinct(rt: HostRuntime) -> Result<(), Fail> {
+    assert_eq!(rt; wrong_sight(rt.alloc())?, None);
+    Ok(())
+}
+
+// The argument of an aggregate: the column 5 of the type, or null.
+fn argument_of(kind: Option<ColType>) -> Expr {
+    match kind {
+        Some(kind) => Expr::Col(5, kind),
+        None => Expr::Literal(Value::Null),
+    }
+}
+
+#[test]
+fn aggregates_take_arguments(rt: HostRuntime) {
+    let table = [
+        (AggKind::Count, Some(ColType::Text), true, ColType::Long),
+        (AggKind::CountIf, Some(ColType::Bool), true, ColType::Long),
+        (AggKind::CountIf, Some(ColType::Int), false, ColType::Long),
+        (AggKind::Sum, Some(ColType::Int), true, ColType::Long),
+        (AggKind::Sum, None, true, ColType::Long),
+        (AggKind::Sum, Some(ColType::Text), false, ColType::Long),
+        (AggKind::Min, Some(ColType::Text), true, ColType::Text),
+        (AggKind::Max, Some(ColType::Int), true, ColType::Int),
+        (AggKind::Max, None, true, ColType::Text),
+    ];
+    for (agg, kind, takes, gives) in table {
+        let arg = argument_of(kind);
+        assert_eq!(rt; agg_takes(agg, &arg), takes);
+        assert_eq!(rt; agg_kind(agg, &arg), gives);
+    }
+}
+
+// Column 5 with that before it, over the columns 1 to 6 by other numbers: the same value, and the one column.
+fn keeps_value(alloc: Global, front: Front, value: &str) -> Result<bool, AllocError> {
+    let e = expr_of(alloc, front)?;
+    let moved = e.renamed(alloc, &[9, 8, 7, 6, 5, 40])?;
+    let row = row_of(alloc, value)?;
+    let before = eval(&e, ColSet::of(&[2, 5]), &row)?;
+    let after = eval(&moved, ColSet::of(&[7, 40]), &row)?;
+    Ok(before == after && e.columns() == ColSet::one(5) && moved.columns() == ColSet::one(40))
+}
+
+#[test]
+fn moved_expressions_keep_their_values(rt: HostRuntime) -> Result<(), Fail> {
+    for (front, value) in [
+        (Front::Neg, "5"),
+        (Front::Not, "true"),
+        (Front::Pair("2", PairOp::Mul), "-4"),
+        (Front::Pair("_", PairOp::Eq), "_"),
+    ] {
+        assert!(rt; keeps_value(rt.alloc(), front, value)?);
+    }
+    Ok(())
 }
 
 // An operand of a table.

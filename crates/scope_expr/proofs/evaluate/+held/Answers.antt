@@ -1,5 +1,5 @@
 use Rattle.std.proofs.Common.{rules}
-use Rattle.scope_expr.proofs.ExprLemmas.{value_pair}
+use Rattle.scope_expr.specs.ValueLemmas.{value_pair}
 use Rattle.scope_expr.proofs.evaluate.+held.Goals as goal
 
 pub returns-in-Pair : goal.returns-in-Pair
