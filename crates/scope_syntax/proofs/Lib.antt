@@ -6,4 +6,5 @@ pub mod StatementLaws
 pub mod ScriptLaws
 pub mod Cuts
 pub mod Progress
+pub mod WrittenLemmas
 pub mod Counts
