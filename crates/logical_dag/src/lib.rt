@@ -19,11 +19,12 @@ mod stated;
 
 pub use dag::{Dag, Output, ScanDecl};
 pub use dag_facts::DagFacts;
+pub use finding::{node_at, tree_at};
 pub use known::{facts_law, facts_of};
 pub use known_at::facts_at;
 pub use laws::meaning_law;
 pub use logical_trees::{
-    Agg, CallArgs, GroupArgs, LogicOp, Logical, TopArgs, bag_law, columns_of, group_columns,
-    replacement_law, rows_law, split_law,
+    Agg, CallArgs, GroupArgs, LogicOp, Logical, TopArgs, bag_law, block_law, child_number,
+    columns_of, group_columns, number_law, replacement_law, rows_law, split_law,
 };
 pub use place::{Place, PlacePart};

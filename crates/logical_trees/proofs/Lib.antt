@@ -1,1 +1,2 @@
 pub mod AggColumnLemmas
+pub mod NodeNumbers

@@ -4,6 +4,7 @@ use Rattle.col_sets.specs.Sets.{has, union}
 use Rattle.logical_trees.specs.declared.logic_op.LogicOp.{LogicOp}
 use Rattle.logical_trees.specs.declared.logic_op.LogicOp.TheVariants.{Join}
 use Rattle.logical_trees.specs.Tree.{Expression, one, two, columns_of}
+use Rattle.logical_trees.specs.Formed.{IsFormed}
 
 -- the leaves of the join block at the top, from the left
 abbrev pub block_leaves : Expression → List Expression
@@ -44,3 +45,7 @@ SomeLeaf P (t ∷ leaves) = P t ⊎ SomeLeaf P leaves
 abbrev pub columns_of_all : List Expression → List ℕ
 columns_of_all [] = []
 columns_of_all (t ∷ leaves) = union (columns_of t) (columns_of_all leaves)
+
+-- a formed expression is a join of the leaves of its block by the block's pairs
+abbrev pub IsOwnJoin : Type 0
+IsOwnJoin = (results : List (List ℕ)) (t : Expression) → IsFormed results t → IsJoinOf (block_pairs t) (block_leaves t) t

@@ -12,6 +12,8 @@ pub mod Laws
 pub mod LeafLemmas
 pub mod Meaning
 pub mod MeaningLemmas
+pub mod NumberLemmas
+pub mod Numbers
 pub mod OneBagLemmas
 pub mod PairLemmas
 pub mod PartLemmas

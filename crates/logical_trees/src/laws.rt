@@ -1,5 +1,7 @@
 // What bags that stand for expressions keep, whatever the operators and the rows that they draw on.
 ghost use Rattle.logical_trees.specs.Laws.{IsOrderFree, HasOneBag, HasSomeBag, KeepsBelow, KeepsBeside, IsSplitGroupKept, IsSplitTopKept};
+ghost use Rattle.logical_trees.specs.Blocks.{IsOwnJoin};
+ghost use Rattle.logical_trees.specs.Numbers.{FitsNumber, HasChildren};
 ghost use Rattle.logical_trees.specs.RowsOver.{HasRowsOver};
 
 /// What stands for an expression does so in any order, and exactly one bag stands for a whole one.
@@ -24,4 +26,15 @@ pub fn split_law()
 /// Each row of a bag that stands for a formed expression has one value for each column, if what comes from outside has.
 pub fn rows_law()
     ensures { HasRowsOver }
+{}
+
+/// A node has no more nodes than its number says, and at the numbers of its children stand these.
+pub fn number_law()
+    ensures fits { FitsNumber }
+    ensures children { HasChildren }
+{}
+
+/// A formed expression is a join of the leaves of its block by the block's pairs.
+pub fn block_law()
+    ensures { IsOwnJoin }
 {}

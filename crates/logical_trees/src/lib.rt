@@ -11,10 +11,12 @@ mod columns;
 mod laws;
 mod logic_op;
 mod logical;
+mod nodes;
 
 pub use agg::Agg;
 pub use args::{CallArgs, GroupArgs, TopArgs};
 pub use columns::{columns_of, group_columns};
-pub use laws::{bag_law, replacement_law, rows_law, split_law};
+pub use laws::{bag_law, block_law, number_law, replacement_law, rows_law, split_law};
 pub use logic_op::LogicOp;
 pub use logical::Logical;
+pub use nodes::child_number;
