@@ -14,6 +14,7 @@ use Rattle.logical_dag.specs.Known.{IsDependency, AreConstants, AreDependencies,
 use Rattle.logical_trees.specs.Blocks.{SomeLeaf, columns_of_all, chosen}
 use Rattle.logical_dag.specs.BlockFacts.{IsInside, AreFactsOfAll}
 use Rattle.logical_dag.specs.Gathered.{bits_after, IsBlank, IsOverColumns, AreAdded}
+use Rattle.logical_dag.proofs.Either.{from_either, either_both, either_second, regrouped, ungrouped}
 use Rattle.logical_dag.proofs.Classes.{linked_bind, linked_same, classes_same, classes_linked, classes_chain, classes_kept}
 use Rattle.logical_dag.proofs.Constants.{constants_same, constants_chain, constants_kept}
 use Rattle.logical_dag.proofs.Dependencies.{dependencies_same, dependencies_chain, dependencies_kept}
@@ -85,36 +86,22 @@ module _ (shared : List Facts) (results : List (List ℕ)) where
 
         forth : (c : ℕ) → c < 128 → (has (union f.columns (columns_of_all xs)) c ≡ true) ⊎ (has (columns_of_all ys) c ≡ true) → has (union f.columns (columns_of_all (xs ++ ys))) c ≡ true
         forth c l (inr m) = into_all c l (inr (some_right (HasColumn c) xs ys (all_columns_some ys c m)))
-        forth c l (inl m) = go (union_has f.columns (columns_of_all xs) c m)
-          where
-            go : (has f.columns c ≡ true) ⊎ (has (columns_of_all xs) c ≡ true) → has (union f.columns (columns_of_all (xs ++ ys))) c ≡ true
-            go (inl n) = into_all c l (inl n)
-            go (inr n) = into_all c l (inr (some_left (HasColumn c) xs ys (all_columns_some xs c n)))
+        forth c l (inl m) = into_all c l (either_second (λ n. some_left (HasColumn c) xs ys (all_columns_some xs c n)) (union_has f.columns (columns_of_all xs) c m))
 
         back : (c : ℕ) → c < 128 → (has f.columns c ≡ true) ⊎ (has (columns_of_all (xs ++ ys)) c ≡ true) → has (union (union f.columns (columns_of_all xs)) (columns_of_all ys)) c ≡ true
         back c l (inl m) = has_union _ _ c l (inl (has_union _ _ c l (inl m)))
-        back c l (inr m) = go (some_either (HasColumn c) xs ys (all_columns_some (xs ++ ys) c m))
-          where
-            go : SomeLeaf (HasColumn c) xs ⊎ SomeLeaf (HasColumn c) ys → has (union (union f.columns (columns_of_all xs)) (columns_of_all ys)) c ≡ true
-            go (inl n) = has_union _ _ c l (inl (has_union _ _ c l (inr (some_all_columns xs c l n))))
-            go (inr n) = has_union _ _ c l (inr (some_all_columns ys c l n))
+        back c l (inr m) =
+            has_union _ _ c l (either_both (λ n. has_union _ _ c l (inr (some_all_columns xs c l n))) (some_all_columns ys c l) (some_either (HasColumn c) xs ys (all_columns_some (xs ++ ys) c m)))
 
     -- what some leaf of either list has
     abbrev InEither : (Expression → Type 0) → Type 0 → Type 0
     InEither P A = (A ⊎ SomeLeaf P xs) ⊎ SomeLeaf P ys
 
     into_both : (P : Expression → Type 0) (A : Type 0) → InEither P A → A ⊎ SomeLeaf P (xs ++ ys)
-    into_both P A (inl (inl m)) = inl m
-    into_both P A (inl (inr m)) = inr (some_left P xs ys m)
-    into_both P A (inr m) = inr (some_right P xs ys m)
+    into_both P A m = either_second (from_either (some_left P xs ys) (some_right P xs ys)) (regrouped m)
 
     from_both : (P : Expression → Type 0) (A : Type 0) → A ⊎ SomeLeaf P (xs ++ ys) → InEither P A
-    from_both P A (inl m) = inl (inl m)
-    from_both P A (inr m) = go (some_either P xs ys m)
-      where
-        go : SomeLeaf P xs ⊎ SomeLeaf P ys → InEither P A
-        go (inl n) = inl (inr n)
-        go (inr n) = inr n
+    from_both P A m = ungrouped (either_second (some_either P xs ys) m)
 
     both_constants : AreConstants h (λ c. (has f.constants c ≡ true) ⊎ SomeLeaf (λ t. IsConstant shared t c) (xs ++ ys))
     both_constants =
@@ -128,8 +115,7 @@ module _ (shared : List Facts) (results : List (List ℕ)) where
         (λ s c. into_both (λ t. Determines shared t s c) (IsDependency f s c)) (λ s c. from_both (λ t. Determines shared t s c) (IsDependency f s c))
       where
         low : (s : List ℕ) (c : ℕ) → IsDependency f s c ⊎ SomeLeaf (λ t. Determines shared t s c) xs → c < 128
-        low s c (inl m) = m.0
-        low s c (inr m) = leaf_below xs formed c (determined_column xs formed s c m)
+        low s c = from_either (λ m. m.0) (λ m. leaf_below xs formed c (determined_column xs formed s c m))
 
     both_classes : AreClasses h (λ c d. (equal_of f c d ≡ true) ⊎ SomeLeaf (λ t. AreEqual shared t c d) (xs ++ ys))
     both_classes =

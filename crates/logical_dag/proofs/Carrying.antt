@@ -11,6 +11,7 @@ use Rattle.fd_closure.specs.Known.{by_of, equal_of}
 use Rattle.logical_dag.specs.declared.naming.Names.{Names}
 use Rattle.logical_dag.specs.Facts.{IsLinked, stated, turned, chained, Renamed, BothRenamed, IsRenamedSet, DependencyRenamed}
 use Rattle.logical_dag.specs.Known.{name_of, IsNaming, IsDependency, IsOwn, AreClasses, AreDependencies, AreConstants, CarriedConstants, CarriedDependencies, CarriedEqualities, AddedDependency, IsFirstAlike, IsEquated, AreCarried, AreApart}
+use Rattle.logical_dag.proofs.Either.{from_either, either_both, either_second, below_or_last}
 use Rattle.logical_dag.proofs.Classes.{linked_same, equal_turned, equal_chained, classes_same, classes_merged, classes_kept}
 use Rattle.logical_dag.proofs.Constants.{constants_with}
 use Rattle.logical_dag.proofs.Dependencies.{dependencies_same, dependencies_kept, dependencies_chain, dependencies_with}
@@ -46,32 +47,29 @@ EqualitiesBelow from name into n c d = (equal_of into c d ≡ true) ⊎ BothRena
 -- the renamed columns of a set so far, with one more column
 pub renamed_put : (name : ℕ → Option ℕ) (set r : List ℕ) (c d : ℕ) → d < 128 → IsNaming name → has set c ≡ true → name c ≡ Some d
     → ((e : ℕ) → (has r e ≡ true) ↔ Renamed name (λ b. (has set b ≡ true) × (b < c)) e) → (e : ℕ) → (has (with_column r d) e ≡ true) ↔ Renamed name (λ b. (has set b ≡ true) × (b < c + 1)) e
-renamed_put name set r c d low naming there named h e = (λ m. forth (with_has r d e m), λ m. has_with r d e (naming.below m.0 e m.2) (split m.0 m.1.0 m.1.1 m.2 (nat_eq m.0 c) refl))
+renamed_put name set r c d low naming there named h e = (λ m. forth (with_has r d e m), λ m. has_with r d e (naming.below m.0 e m.2) (split m.0 m.1.0 m.2 (below_or_last m.0 c m.1.1)))
   where
     forth : (e ≡ d) ⊎ (has r e ≡ true) → Renamed name (λ b. (has set b ≡ true) × (b < c + 1)) e
     forth (inl i) = (c, (there, omega arith), named ∙ ap Some (sym i))
     forth (inr m) = let k = (h e).0 m in let l : k.0 < c = k.1.1 in (k.0, (k.1.0, omega arith), k.2)
 
-    split : (b : ℕ) → has set b ≡ true → b < c + 1 → name b ≡ Some e → (t : Bool) → nat_eq b c ≡ t → (e ≡ d) ⊎ (has r e ≡ true)
-    split b m l n true t = let same : b ≡ c = from_test b c t in let i : Some e ≡ Some d = sym n ∙ ap name same ∙ named in inl (cc)
-    split b m l n false t = let other : b ≢ c = grind (arith, nat_tests) in inr ((h e).1 (b, (m, omega arith), n))
+    split : (b : ℕ) → has set b ≡ true → name b ≡ Some e → (b < c) ⊎ (b ≡ c) → (e ≡ d) ⊎ (has r e ≡ true)
+    split b m n (inl l) = inr ((h e).1 (b, (m, l), n))
+    split b m n (inr same) = let i : Some e ≡ Some d = sym n ∙ ap name same ∙ named in inl (cc)
 
 -- a column that the set lacks changes nothing
 pub renamed_skip : (name : ℕ → Option ℕ) (set r : List ℕ) (c : ℕ) → has set c ≡ false
     → ((e : ℕ) → (has r e ≡ true) ↔ Renamed name (λ b. (has set b ≡ true) × (b < c)) e) → (e : ℕ) → (has r e ≡ true) ↔ Renamed name (λ b. (has set b ≡ true) × (b < c + 1)) e
-renamed_skip name set r c gone h e = (λ m. let k = (h e).0 m in let l : k.0 < c = k.1.1 in (k.0, (k.1.0, omega arith), k.2), λ m. (h e).1 (m.0, (m.1.0, less m.0 m.1.0 m.1.1 (nat_eq m.0 c) refl), m.2))
+renamed_skip name set r c gone h e = (λ m. let k = (h e).0 m in let l : k.0 < c = k.1.1 in (k.0, (k.1.0, omega arith), k.2), λ m. (h e).1 (m.0, (m.1.0, less m.0 m.1.0 (below_or_last m.0 c m.1.1)), m.2))
   where
-    less : (b : ℕ) → has set b ≡ true → b < c + 1 → (t : Bool) → nat_eq b c ≡ t → b < c
-    less b m l true t = absurd (let same : has set b ≡ false = ap (has set) (from_test b c t) ∙ gone in cc)
-    less b m l false t = let other : b ≢ c = grind (arith, nat_tests) in omega arith
+    less : (b : ℕ) → has set b ≡ true → (b < c) ⊎ (b ≡ c) → b < c
+    less b m (inl l) = l
+    less b m (inr e) = absurd (let same : has set b ≡ false = ap (has set) e ∙ gone in cc)
 
 -- so far each column of the set has a name, and the next one too
 pub named_more : (name : ℕ → Option ℕ) (set : List ℕ) (c : ℕ) → (has set c ≡ true → IsSome (name c)) → ((b : ℕ) → b < c → has set b ≡ true → IsSome (name b)) → (b : ℕ) → b < c + 1 → has set b ≡ true → IsSome (name b)
-named_more name set c here before b l m = go (nat_eq b c) refl
-  where
-    go : (t : Bool) → nat_eq b c ≡ t → IsSome (name b)
-    go true t = let same : b ≡ c = from_test b c t in subst (λ (i : ℕ). IsSome (name i)) (sym same) (here (subst (λ (i : ℕ). has set i ≡ true) same m))
-    go false t = let other : b ≢ c = grind (arith, nat_tests) in before b (omega arith) m
+named_more name set c here before b l m =
+    from_either (λ k. before b k m) (λ e. subst (λ (i : ℕ). IsSome (name i)) (sym e) (here (subst (λ (i : ℕ). has set i ≡ true) e m))) (below_or_last b c l)
 
 -- once all columns have been looked at
 pub renamed_all : (name : ℕ → Option ℕ) (set r : List ℕ) (n : ℕ) → ((b : ℕ) → has set b ≡ true → b < n) → ((b : ℕ) → b < n → has set b ≡ true → IsSome (name b))
@@ -117,23 +115,11 @@ module _ (from : Facts) (name : ℕ → Option ℕ) (into : Facts) (naming : IsN
 
       back : (s : List ℕ) (c : ℕ) → DependenciesBelow from name into (a + 1) s c → DependenciesBelow from name into a s c ⊎ DependencyRenamed name (λ r b. (b ≡ a) × IsDependency from r b) s c
       back s c (inl m) = inl (inl m)
-      back s c (inr m) = go (nat_eq m.1 a) refl
-        where
-          go : (t : Bool) → nat_eq m.1 a ≡ t → DependenciesBelow from name into a s c ⊎ DependencyRenamed name (λ r b. (b ≡ a) × IsDependency from r b) s c
-          go true t = inr (m.0, m.1, (from_test m.1 a t, m.2.1), m.3, m.4)
-          go false t = let l : m.1 < a + 1 = m.2.0 in let other : m.1 ≢ a = grind (arith, nat_tests) in inl (inr (m.0, m.1, (omega arith, m.2.1), m.3, m.4))
+      back s c (inr m) = either_both (λ l. inr (m.0, m.1, (l, m.2.1), m.3, m.4)) (λ e. (m.0, m.1, (e, m.2.1), m.3, m.4)) (below_or_last m.1 a m.2.0)
 
   -- once all columns have been looked at
   pub dependencies_end : (n : ℕ) (f : Facts) → ((b c : ℕ) → name b ≡ Some c → b < n) → AreDependencies f (DependenciesBelow from name into n) → AreDependencies f (CarriedDependencies from name into)
-  dependencies_end n f low h = dependencies_same f _ _ h there back
-    where
-      there : (s : List ℕ) (c : ℕ) → DependenciesBelow from name into n s c → CarriedDependencies from name into s c
-      there s c (inl m) = inl m
-      there s c (inr m) = inr (m.0, m.1, m.2.1, m.3, m.4)
-
-      back : (s : List ℕ) (c : ℕ) → CarriedDependencies from name into s c → DependenciesBelow from name into n s c
-      back s c (inl m) = inl m
-      back s c (inr m) = inr (m.0, m.1, (low m.1 c m.3, m.2), m.3, m.4)
+  dependencies_end n f low h = dependencies_same f _ _ h (λ s c. either_second (λ m. (m.0, m.1, m.2.1, m.3, m.4))) (λ s c. either_second (λ m. (m.0, m.1, (low m.1 c m.3, m.2), m.3, m.4)))
 
   -- at first nothing is equated
   pub equalities_init : IsOwn into → AreClasses into (EqualitiesBelow from name into 0)
@@ -201,15 +187,8 @@ module _ (from : Facts) (name : ℕ → Option ℕ) (into : Facts) (naming : IsN
 
   -- once all columns have been looked at
   pub equalities_end : (n : ℕ) (f : Facts) → ((b c : ℕ) → name b ≡ Some c → b < n) → AreClasses f (EqualitiesBelow from name into n) → AreClasses f (CarriedEqualities from name into)
-  equalities_end n f low h = classes_same f (EqualitiesBelow from name into n) h (CarriedEqualities from name into) there back
-    where
-      there : (a b : ℕ) → EqualitiesBelow from name into n a b → IsLinked (CarriedEqualities from name into) a b
-      there a b (inl m) = stated (inl m)
-      there a b (inr m) = stated (inr (m.0, m.1, m.2.2, m.3, m.4))
-
-      back : (a b : ℕ) → CarriedEqualities from name into a b → IsLinked (EqualitiesBelow from name into n) a b
-      back a b (inl m) = stated (inl m)
-      back a b (inr m) = stated (inr (m.0, m.1, (low m.0 a m.3, low m.1 b m.4, m.2), m.3, m.4))
+  equalities_end n f low h = classes_same f (EqualitiesBelow from name into n) h (CarriedEqualities from name into)
+      (λ a b k. stated (either_second (λ m. (m.0, m.1, m.2.2, m.3, m.4)) k)) (λ a b k. stated (either_second (λ m. (m.0, m.1, (low m.0 a m.3, low m.1 b m.4, m.2), m.3, m.4)) k))
 
 -- constants first, then dependencies, then equalities
 pub carried_all : (from : Facts) (name : ℕ → Option ℕ) (into f g h : Facts) → f ≡ record into { constants = f.constants } → g ≡ record f { determined = g.determined; by = g.by } → h ≡ record g { class = h.class }
@@ -285,19 +264,7 @@ module _ (from into : Facts) (apart : AreApart into from) where
 
       back : (s : List ℕ) (c : ℕ) → SameBelow from into (a + 1) s c → SameBelow from into a s c ⊎ ((c ≡ a) × IsDependency from s c)
       back s c (inl m) = inl (inl m)
-      back s c (inr m) = go (nat_eq c a) refl
-        where
-          go : (t : Bool) → nat_eq c a ≡ t → SameBelow from into a s c ⊎ ((c ≡ a) × IsDependency from s c)
-          go true t = inr (from_test c a t, m.1)
-          go false t = let l : c < a + 1 = m.0 in let other : c ≢ a = grind (arith, nat_tests) in inl (inr (omega arith, m.1))
+      back s c (inr m) = either_both (λ l. inr (l, m.1)) (λ e. (e, m.1)) (below_or_last c a m.0)
 
   pub same_end : (n : ℕ) (f : Facts) → 128 ≤ n → AreDependencies f (SameBelow from into n) → AreDependencies f (λ s c. IsDependency into s c ⊎ IsDependency from s c)
-  same_end n f l h = dependencies_same f _ _ h there back
-    where
-      there : (s : List ℕ) (c : ℕ) → SameBelow from into n s c → IsDependency into s c ⊎ IsDependency from s c
-      there s c (inl m) = inl m
-      there s c (inr m) = inr m.1
-
-      back : (s : List ℕ) (c : ℕ) → IsDependency into s c ⊎ IsDependency from s c → SameBelow from into n s c
-      back s c (inl m) = inl m
-      back s c (inr m) = let k : c < 128 = m.0 in inr (omega arith, m)
+  same_end n f l h = dependencies_same f _ _ h (λ s c. either_second (λ m. m.1)) (λ s c. either_second (λ m. let k : c < 128 = m.0 in (omega arith, m)))

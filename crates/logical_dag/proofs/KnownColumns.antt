@@ -17,7 +17,7 @@ use Rattle.logical_trees.specs.declared.logic_op.LogicOp.{LogicOp}
 use Rattle.logical_trees.specs.declared.logic_op.LogicOp.TheVariants.{Ref, Filter, Project, Join, Group, Process, Reduce, Combine, Partial, Finish}
 use Rattle.logical_trees.specs.Tree.{Expression, leaf, one, two, one_columns, group_columns, columns_of}
 use Rattle.logical_trees.specs.Formed.{IsGroup, IsOver, IsFormed, IsOneFormed}
-use Rattle.logical_dag.proofs.Either.{from_either, either_both}
+use Rattle.logical_dag.proofs.Either.{from_either, either_both, either_second}
 use Rattle.logical_dag.proofs.Classes.{linked_none}
 use Rattle.logical_dag.specs.Facts.{IsLinked, stated, itself, turned, chained, SomeConjunct, Equates, IsColumnAndLiteral, AreColumns, SetsConstant, SetsEqual, is_column, ref_name, item_name, key_name, Renamed, BothRenamed, DependencyRenamed, IsAggregate, result_columns, name_above, MakesConstant, MakesDependent, MakesEqual, IsConstant, Determines, IsStatedEqual, AreEqual}
 use Rattle.logical_trees.specs.ColumnLemmas.{has_at, into_union}
@@ -35,11 +35,7 @@ pub linked_about : (P : ℕ → ℕ → Type 0) (cols : List ℕ) → ((c d : �
     → (c d : ℕ) → IsLinked P c d → (c ≡ d) ⊎ ((has cols c ≡ true) × (has cols d ≡ true))
 linked_about P cols h c d (stated p) = h c d p
 linked_about P cols h c d itself = inl refl
-linked_about P cols h c d (turned l) = go (linked_about P cols h d c l)
-  where
-    go : (d ≡ c) ⊎ ((has cols d ≡ true) × (has cols c ≡ true)) → (c ≡ d) ⊎ ((has cols c ≡ true) × (has cols d ≡ true))
-    go (inl e) = inl (sym e)
-    go (inr k) = inr (k.1, k.0)
+linked_about P cols h c d (turned l) = either_both sym (λ k. (k.1, k.0)) (linked_about P cols h d c l)
 linked_about P cols h c d (chained {d = e} l m) = go (linked_about P cols h c e l) (linked_about P cols h e d m)
   where
     go : (c ≡ e) ⊎ ((has cols c ≡ true) × (has cols e ≡ true)) → (e ≡ d) ⊎ ((has cols e ≡ true) × (has cols d ≡ true)) → (c ≡ d) ⊎ ((has cols c ≡ true) × (has cols d ≡ true))
@@ -194,29 +190,18 @@ module _ (shared : List Facts) where
   module _ (left right cols : List ℕ) (into : (c : ℕ) → (has left c ≡ true) ⊎ (has right c ≡ true) → has cols c ≡ true) (C K : ℕ → Type 0) (D L : List ℕ → ℕ → Type 0) (E F : ℕ → ℕ → Type 0)
       (h : AreAbout C D E left) (k : AreAbout K L F right) where
     sides_constants : (c : ℕ) → C c ⊎ K c → has cols c ≡ true
-    sides_constants c (inl m) = into c (inl (h.constants c m))
-    sides_constants c (inr m) = into c (inr (k.constants c m))
+    sides_constants c m = into c (either_both (h.constants c) (k.constants c) m)
 
     sides_determined : (s : List ℕ) (c : ℕ) → D s c ⊎ L s c → has cols c ≡ true
-    sides_determined s c (inl m) = into c (inl (h.determined s c m))
-    sides_determined s c (inr m) = into c (inr (k.determined s c m))
+    sides_determined s c m = into c (either_both (h.determined s c) (k.determined s c) m)
 
     sides_by : (s : List ℕ) (c d : ℕ) → D s c ⊎ L s c → has s d ≡ true → has cols d ≡ true
-    sides_by s c d (inl m) n = into d (inl (h.by s c d m n))
-    sides_by s c d (inr m) n = into d (inr (k.by s c d m n))
+    sides_by s c d m n = into d (either_both (λ o. h.by s c d o n) (λ o. k.by s c d o n) m)
 
     sides_equal : (on : List (ℕ × ℕ)) → All (λ p. (has left p.0 ≡ true) × (has right p.1 ≡ true)) on → (c d : ℕ) → E c d ⊎ (F c d ⊎ Contains on (c, d))
         → (c ≡ d) ⊎ ((has cols c ≡ true) × (has cols d ≡ true))
-    sides_equal on sides c d (inl m) = go (h.equal c d m)
-      where
-        go : (c ≡ d) ⊎ ((has left c ≡ true) × (has left d ≡ true)) → (c ≡ d) ⊎ ((has cols c ≡ true) × (has cols d ≡ true))
-        go (inl e) = inl e
-        go (inr n) = inr (into c (inl n.0), into d (inl n.1))
-    sides_equal on sides c d (inr (inl m)) = go (k.equal c d m)
-      where
-        go : (c ≡ d) ⊎ ((has right c ≡ true) × (has right d ≡ true)) → (c ≡ d) ⊎ ((has cols c ≡ true) × (has cols d ≡ true))
-        go (inl e) = inl e
-        go (inr n) = inr (into c (inr n.0), into d (inr n.1))
+    sides_equal on sides c d (inl m) = either_second (λ n. (into c (inl n.0), into d (inl n.1))) (h.equal c d m)
+    sides_equal on sides c d (inr (inl m)) = either_second (λ n. (into c (inr n.0), into d (inr n.1))) (k.equal c d m)
     sides_equal on sides c d (inr (inr m)) =
         let n = All-contains (λ p. (has left p.0 ≡ true) × (has right p.1 ≡ true)) on (c, d) sides m in inr (into c (inl n.0), into d (inr n.1))
 

@@ -406,16 +406,12 @@ module _ (on : List (ℕ × ℕ)) (left right : List ℕ) (set : IsColumnSet lef
             ∙ sym (right_at y q c (g.determined s c i))
 
         equal : (c d : ℕ) → E c d ⊎ (F c d ⊎ Contains on (c, d)) → hold.AreEqual (union left right) Z c d
-        equal c d (inl i) = λ x m. go x (sides_of x m) (f.equal c d i)
-          where
-            go : (x : Row) → Sides x → (c ≡ d) ⊎ ((has left c ≡ true) × (has left d ≡ true)) → value_at (union left right) x c ≡ value_at (union left right) x d
-            go x o (inl e) = ap (value_at (union left right) x) e
-            go x o (inr t) = left_at x o c t.0 ∙ h.equal c d i o.one o.there ∙ sym (left_at x o d t.1)
-        equal c d (inr (inl i)) = λ x m. go x (sides_of x m) (g.equal c d i)
-          where
-            go : (x : Row) → Sides x → (c ≡ d) ⊎ ((has right c ≡ true) × (has right d ≡ true)) → value_at (union left right) x c ≡ value_at (union left right) x d
-            go x o (inl e) = ap (value_at (union left right) x) e
-            go x o (inr t) = right_at x o c t.0 ∙ k.equal c d i o.second o.beside ∙ sym (right_at x o d t.1)
+        equal c d (inl i) = λ x m.
+            let o = sides_of x m in
+            from_either (λ e. ap (value_at (union left right) x) e) (λ t. left_at x o c t.0 ∙ h.equal c d i o.one o.there ∙ sym (left_at x o d t.1)) (f.equal c d i)
+        equal c d (inr (inl i)) = λ x m.
+            let o = sides_of x m in
+            from_either (λ e. ap (value_at (union left right) x) e) (λ t. right_at x o c t.0 ∙ k.equal c d i o.second o.beside ∙ sym (right_at x o d t.1)) (g.equal c d i)
         equal c d (inr (inr i)) = λ x m.
             let o = sides_of x m in
             let t = All-contains (λ p. (has left p.0 ≡ true) × (has right p.1 ≡ true)) on (c, d) join.sides i in

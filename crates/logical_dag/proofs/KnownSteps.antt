@@ -269,16 +269,8 @@ joined_all on left right f g h cols constants e i j k l depends equal pairs = re
       (λ m. union_has left.constants right.constants c (subst (λ (s : List ℕ). has s c ≡ true) same m), λ m. subst (λ (s : List ℕ). has s c ≡ true) (sym same) (has_union left.constants right.constants c low m));
   dependencies = dependencies_moved f h _ (ap (λ (x : Facts). x.determined) l ∙ ap (λ (x : Facts). x.determined) k) (ap (λ (x : Facts). x.by) l ∙ ap (λ (x : Facts). x.by) k) (record { stated = depends.stated; all = depends.all });
   classes = classes_chain g h (CarriedEqualities right (key_name right.columns) left) (λ c d. Contains on (c, d))
-      (classes_same g (CarriedEqualities right (key_name right.columns) f) equal (CarriedEqualities right (key_name right.columns) left) (λ c d m. stated (there c d m)) (λ c d m. stated (back c d m))) pairs;
+      (classes_same g (CarriedEqualities right (key_name right.columns) f) equal (CarriedEqualities right (key_name right.columns) left) (λ c d m. stated (either_first (λ n. sym (same c d) ∙ n) m)) (λ c d m. stated (either_first (λ n. same c d ∙ n) m))) pairs;
 }
   where
     same : (c d : ℕ) → equal_of f c d ≡ equal_of left c d
     same c d = ap (λ (s : List ℕ). equal_of (record left { class = s }) c d) (ap (λ (x : Facts). x.class) j)
-
-    there : (c d : ℕ) → CarriedEqualities right (key_name right.columns) f c d → CarriedEqualities right (key_name right.columns) left c d
-    there c d (inl m) = inl (sym (same c d) ∙ m)
-    there c d (inr m) = inr m
-
-    back : (c d : ℕ) → CarriedEqualities right (key_name right.columns) left c d → CarriedEqualities right (key_name right.columns) f c d
-    back c d (inl m) = inl (same c d ∙ m)
-    back c d (inr m) = inr m

@@ -10,6 +10,7 @@ use Rattle.logical_dag.specs.Facts.{stated}
 use Rattle.logical_dag.specs.Known.{IsOwn, AreClasses}
 use Rattle.logical_dag.specs.BlockFacts.{IsInside}
 use Rattle.list_lemmas.specs.Members.{in_list, list_in}
+use Rattle.logical_dag.proofs.Either.{either_both}
 use Rattle.logical_dag.proofs.Classes.{classes_same, classes_chain, classes_kept, classes_with}
 
 -- equal by the facts, or a pair that lies inside
@@ -57,11 +58,9 @@ pairs_both f g h xs ys same first second =
 
     back : (c d : ℕ) → EqualOrInside f (xs ++ ys) c d → EqualOrInside f xs c d ⊎ IsInside ys g.columns c d
     back c d (inl m) = inl (inl m)
-    back c d (inr m) = go (Contains-append_cases xs ys (c, d) m.2)
-      where
-        go : Contains xs (c, d) ⊎ Contains ys (c, d) → EqualOrInside f xs c d ⊎ IsInside ys g.columns c d
-        go (inl n) = inl (inr (m.0, m.1, n))
-        go (inr n) = inr (subst (λ (cols : List ℕ). has cols c ≡ true) (sym same) m.0, subst (λ (cols : List ℕ). has cols d ≡ true) (sym same) m.1, n)
+    back c d (inr m) =
+        either_both (λ n. inr (m.0, m.1, n)) (λ n. (subst (λ (cols : List ℕ). has cols c ≡ true) (sym same) m.0, subst (λ (cols : List ℕ). has cols d ≡ true) (sym same) m.1, n))
+        (Contains-append_cases xs ys (c, d) m.2)
 
 -- what is kept but for the classes is kept over two steps
 pub rest_kept : (f g h : Facts) → g ≡ record f { class = g.class } → h ≡ record g { class = h.class } → h ≡ record f { class = h.class }

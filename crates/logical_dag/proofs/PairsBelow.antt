@@ -9,7 +9,7 @@ use Rattle.fd_closure.specs.Known.{equal_of, IsMerged}
 use Rattle.logical_dag.specs.Facts.{stated}
 use Rattle.logical_dag.specs.Known.{IsOwn, AreClasses}
 use Rattle.list_lemmas.specs.Reading.{one_read}
-use Rattle.logical_dag.proofs.Either.{either_second}
+use Rattle.logical_dag.proofs.Either.{either_both, either_second, below_or_last}
 use Rattle.logical_dag.proofs.Classes.{classes_same, classes_merged, classes_kept}
 
 -- one pair of the first n
@@ -40,14 +40,13 @@ module _ (into : Facts) (on : List (ℕ × ℕ)) (own : IsOwn into) where
 
       back : (c d : ℕ) → (equal_of into c d ≡ true) ⊎ PairBelow on (n + 1) c d → ((equal_of into c d ≡ true) ⊎ PairBelow on n c d) ⊎ ((c ≡ a) × (d ≡ b))
       back c d (inl m) = inl (inl m)
-      back c d (inr m) = go (nat_eq m.0 n) refl
+      back c d (inr m) = either_both (λ k. inr (m.0, k, m.2, m.3)) last (below_or_last m.0 n m.1)
         where
-          go : (t : Bool) → nat_eq m.0 n ≡ t → ((equal_of into c d ≡ true) ⊎ PairBelow on n c d) ⊎ ((c ≡ a) × (d ≡ b))
-          go true t =
-              let at : slice_index_or on n (c, d) ≡ (c, d) = subst (λ (i : ℕ). slice_index_or on i (c, d) ≡ (c, d)) (from_test m.0 n t) m.3 in
+          last : m.0 ≡ n → (c ≡ a) × (d ≡ b)
+          last k =
+              let at : slice_index_or on n (c, d) ≡ (c, d) = subst (λ (i : ℕ). slice_index_or on i (c, d) ≡ (c, d)) k m.3 in
               let same : (c, d) ≡ (a, b) = one_read on n (c, d) (a, b) l (sym at) (sym e) in
-              inr (ap (λ p. p.0) same, ap (λ p. p.1) same)
-          go false t = let k : m.0 < n + 1 = m.1 in let other : m.0 ≢ n = grind (arith, nat_tests) in inl (inr (m.0, omega arith, m.2, m.3))
+              (ap (λ p. p.0) same, ap (λ p. p.1) same)
 
   pub pairs_done : (f : Facts) (n : ℕ) → length on ≤ n → AreClasses f (λ c d. (equal_of into c d ≡ true) ⊎ PairBelow on n c d) → AreClasses f (λ c d. (equal_of into c d ≡ true) ⊎ Contains on (c, d))
   pairs_done f n l h = classes_same f (λ c d. (equal_of into c d ≡ true) ⊎ PairBelow on n c d) h (λ c d. (equal_of into c d ≡ true) ⊎ Contains on (c, d)) (λ c d m. stated (either_second (λ p. (p.0, p.2, p.3)) m)) (λ c d m. stated (either_second (back c d) m))
