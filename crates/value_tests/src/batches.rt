@@ -66,19 +66,33 @@ fn all_kinds(alloc: Global) -> Result<Row, AllocError> {
     ]?))
 }
 
-// A row that is pushed comes back, from the batch and from one that takes it over.
-fn comes_back(alloc: Global, row: &Row) -> Result<bool, AllocError> {
+// A batch with the row, taken over from one that it was pushed to.
+fn taken_over(alloc: Global, row: &Row) -> Result<Batch, AllocError> {
+    let mut other = Batch::new(alloc, 12);
     let mut batch = Batch::new(alloc, 12);
-    if row.len() != 12 {
+    if row.len() == 12 {
+        batch.push(row)?;
+        other.push_from(&batch, 0)?;
+    }
+    Ok(other)
+}
+
+// The first row is this one, with nothing past its end.
+fn begins_with(alloc: Global, batch: &Batch, row: &Row) -> Result<bool, AllocError> {
+    if batch.is_empty() {
         return Ok(false);
     }
-    batch.push(row)?;
-    let mut other = Batch::new(alloc, 12);
-    other.push_from(&batch, 0)?;
-    let copy = other.row(0).copy(alloc)?;
-    let lent = other.row(0);
-    let past = lent.len() == 12 && !lent.is_empty() && lent.get(12).compare(ValueRef::Null).is_eq();
-    Ok(past && copy.compare(row).is_eq() && batch.compare(0, &other, 0, &by(3, true, true)).is_eq())
+    let lent = batch.row(0);
+    let ends = lent.len() == 12 && !lent.is_empty() && lent.get(12).compare(ValueRef::Null).is_eq();
+    let copy = lent.copy(alloc)?;
+    Ok(ends && copy.compare(row).is_eq() && batch.compare(0, batch, 0, &by(3, true, true)).is_eq())
+}
+
+// A row that is pushed comes back, from the batch that takes it over.
+fn comes_back(alloc: Global) -> Result<bool, AllocError> {
+    let row = all_kinds(alloc)?;
+    let batch = taken_over(alloc, &row)?;
+    begins_with(alloc, &batch, &row)
 }
 
 fn block_has(alloc: Global, from: usize, to: usize) -> Result<usize, AllocError> {
@@ -124,9 +138,7 @@ fn clears(alloc: Global) -> Result<bool, AllocError> {
 #[test]
 fn batch_is_its_list_of_rows(rt: HostRuntime) -> Result<(), Fail> {
     let alloc = rt.alloc();
-    let row = all_kinds(alloc)?;
-    assert!(rt; comes_back(alloc, &row)?);
-    assert!(rt; all_sort(alloc)?);
+    assert!(rt; comes_back(alloc)? && all_sort(alloc)?);
     assert!(rt; block_has(alloc, 1, 3)? == 2 && block_has(alloc, 3, 3)? == 0);
     assert!(rt; list_holds(alloc)? && clears(alloc)?);
     Ok(())

@@ -1,5 +1,6 @@
 //! Both stores in memory, call after call.
 use scope_outside::{MemStore, NoFailStore, ReadAnswer, Store, WriteAnswer};
+use std::alloc::{AllocError, Global};
 use std::test::Fail;
 
 #[test]
@@ -36,22 +37,31 @@ fn listed_calls_fail(rt: HostRuntime) -> Result<(), Fail> {
     Ok(())
 }
 
-#[test]
-fn nothing_fails(rt: HostRuntime) -> Result<(), Fail> {
-    let alloc = rt.alloc();
+// A name that is missing, one that holds something, and what it holds once it was written.
+fn reads_and_writes(store: &mut NoFailStore, out: &mut Vec<u8>) -> bool {
+    store.read(b"out", out) == ReadAnswer::Missing
+        && store.read(b"in", out) == ReadAnswer::Done
+        && store.write(b"in", b"new") == WriteAnswer::Done
+        && store.read(b"in", out) == ReadAnswer::Done
+        && out.as_slice() == b"oldnew".as_slice()
+}
+
+fn holds_new(store: &NoFailStore) -> Result<bool, AllocError> {
+    let there = store.get(b"in")?.is_some_and(|held: &[u8]| held == b"new".as_slice());
+    Ok(there && store.get(b"out")?.is_none())
+}
+
+fn never_fails(alloc: Global) -> Result<bool, AllocError> {
     let mut store = NoFailStore::new(alloc);
     store.put(b"in", b"old")?;
     let mut out = Vec::new(alloc);
-    assert_eq!(rt; store.read(b"out", &mut out), ReadAnswer::Missing);
-    assert_eq!(rt; store.read(b"in", &mut out), ReadAnswer::Done);
-    assert_eq!(rt; store.write(b"in", b"new"), WriteAnswer::Done);
-    assert_eq!(rt; store.read(b"in", &mut out), ReadAnswer::Done);
-    assert!(rt; out.as_slice() == b"oldnew".as_slice());
-    assert!(rt;
-        store
-            .get(b"in")?
-            .is_some_and(|held: &[u8]| held == b"new".as_slice())
-    );
-    assert!(rt; store.get(b"out")?.is_none());
+    let is_so = reads_and_writes(&mut store, &mut out);
+    drop(out);
+    Ok(holds_new(&store)? && is_so)
+}
+
+#[test]
+fn nothing_fails(rt: HostRuntime) -> Result<(), Fail> {
+    assert!(rt; never_fails(rt.alloc())?);
     Ok(())
 }
