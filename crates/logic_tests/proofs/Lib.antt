@@ -1,4 +1,3 @@
-mod ShowingFits
 mod TallFormed
 mod WorkedBindable
 mod WorkedFormed

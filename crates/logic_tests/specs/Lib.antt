@@ -1,4 +1,5 @@
 pub mod Calling
 pub mod Showing
+pub mod ShowingFits
 pub mod Tall
 pub mod Worked

@@ -1,6 +1,7 @@
 // Operators of the tests, which show the rows that they are given.
 ghost use Rattle.std.specs.Prelude.{◌≡◌, ◌<◌, ◌++◌, length, OnOk, OnErr, IfOk};
 ghost use Rattle.user_ops.specs.Appends.{AddsSome};
+ghost use Rattle.logic_tests.specs.ShowingFits.{row_shown-lawful, group_shown-lawful, side_shown-lawful};
 ghost use Rattle.logic_tests.specs.Calling.{HasEach};
 ghost use Rattle.logic_tests.specs.Showing.{row_shown, group_shown, side_shown};
 
@@ -27,11 +28,13 @@ pub struct RowShown;
 impl Processor for RowShown {
     ghost told_processor = { λ _. row_shown };
 
+    ghost processor_law = { λ _. row_shown-lawful };
+
     fn accepts(&self, _input: &Schema, _output: &Schema, _args: &[Cell]) -> bool {
         false
     }
 
-    #[tactic(auto, using(crate::proofs::ShowingFits::showing_rules))]
+    #[tactic(auto, using(crate::specs::ShowingFits::showing_rules))]
     fn process(
         &self,
         _alloc: Global,
@@ -51,11 +54,13 @@ pub struct GroupShown;
 impl Reducer for GroupShown {
     ghost told_reducer = { λ _. group_shown };
 
+    ghost reducer_law = { λ _. group_shown-lawful };
+
     fn accepts(&self, _input: &Schema, _output: &Schema, _args: &[Cell]) -> bool {
         false
     }
 
-    #[tactic(auto, using(crate::proofs::ShowingFits::showing_rules))]
+    #[tactic(auto, using(crate::specs::ShowingFits::showing_rules))]
     fn reduce(
         &self,
         _alloc: Global,
@@ -74,11 +79,13 @@ pub struct SideShown;
 impl Combiner for SideShown {
     ghost told_combiner = { λ _. side_shown };
 
+    ghost combiner_law = { λ _. side_shown-lawful };
+
     fn accepts(&self, _left: &Schema, _right: &Schema, _output: &Schema, _args: &[Cell]) -> bool {
         false
     }
 
-    #[tactic(auto, using(crate::proofs::ShowingFits::showing_rules))]
+    #[tactic(auto, using(crate::specs::ShowingFits::showing_rules))]
     fn combine(
         &self,
         _alloc: Global,

@@ -1,7 +1,7 @@
 //! Types of the rows of a plan's nodes.
 //!
 //! Each column of a tree has one type (`specs/Types.antt`). Where the values of the rows of a node's children fit, so do those of its
-//! own, node by node, and those of a user operator by what its calls ensured.
+//! own, node by node, and those of a user operator by its law.
 #![tactic(auto)]
 
 mod laws;

@@ -1,3 +1,0 @@
-pub mod FirstIsNullFits
-pub mod MarkingFits
-pub mod NoRows

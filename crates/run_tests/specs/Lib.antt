@@ -1,2 +1,5 @@
 pub mod FirstIsNull
+pub mod FirstIsNullFits
 pub mod Marking
+pub mod MarkingFits
+pub mod NoRows

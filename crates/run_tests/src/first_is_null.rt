@@ -1,6 +1,7 @@
 // An operator that is not shipped, as docs/OPERATORS.md builds it.
 ghost use Rattle.std.specs.Prelude.{◌≡◌};
 ghost use Rattle.run_tests.specs.FirstIsNull.{first_is_null, is_one_truth, begins_with_null};
+ghost use Rattle.run_tests.specs.FirstIsNullFits.{first_is_null-lawful};
 
 use scope_value::{Cell, ColType, Column, Row, Schema, Value};
 use std::alloc::{AllocError, Global};
@@ -29,11 +30,13 @@ fn starts_with_null(values: &[Value]) -> bool
 impl Processor for FirstIsNull {
     ghost told_processor = { λ _. first_is_null };
 
+    ghost processor_law = { λ _. first_is_null-lawful };
+
     fn accepts(&self, _input: &Schema, output: &Schema, args: &[Cell]) -> bool {
         args.is_empty() && has_one_truth(output.as_slice())
     }
 
-    #[tactic(auto, using(crate::proofs::FirstIsNullFits::fit_rules))]
+    #[tactic(auto, using(crate::specs::FirstIsNullFits::fit_rules))]
     fn process(
         &self,
         alloc: Global,

@@ -1,6 +1,7 @@
 // An extractor of the tests, which isn't shipped.
 ghost use Rattle.std.specs.Prelude.{◌≡◌};
 ghost use Rattle.run_tests.specs.Marking.{marking, is_one_text as spec_is_one_text};
+ghost use Rattle.run_tests.specs.MarkingFits.{marking-lawful};
 
 use scope_value::{Cell, ColType, Column, Schema, Value};
 use std::alloc::{AllocError, Global};
@@ -22,6 +23,8 @@ fn is_one_text(columns: &[Column]) -> bool
 impl Extractor for Marking {
     ghost told_extractor = { λ _. marking };
 
+    ghost extractor_law = { λ _. marking-lawful };
+
     fn fixed(&self, _alloc: Global, _out: &mut Vec<Column>) -> Result<bool, AllocError> {
         Ok(false)
     }
@@ -34,7 +37,7 @@ impl Extractor for Marking {
         b','
     }
 
-    #[tactic(auto, using(crate::proofs::MarkingFits::marking_fits))]
+    #[tactic(auto, using(crate::specs::MarkingFits::marking_fits))]
     fn extract(
         &self,
         alloc: Global,

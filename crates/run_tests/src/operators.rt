@@ -20,9 +20,20 @@ fn process_at(
     ensures { IfOk result (λ given.
         given.items ≡ processes_at (⟦<OpSet as Tells>⟧.tells ops.now) place args.now row.now) }
 {
+    process_boxed(alloc, ops.processor_at(place), args, row)
+}
+
+// The rows that a processor gives for a row.
+fn process_boxed(
+    alloc: Global,
+    op: &Box<dyn Processor>,
+    args: &[Cell],
+    row: &Row,
+) -> Result<Vec<Row>, AllocError>
+    ensures { IfOk result (λ given. given.items ≡ (told_processor op.now).processes args.now row.now) }
+{
     let mut given = Vec::new(alloc);
-    ops.processor_at(place)
-        .process(alloc, args, row, &mut given)?;
+    op.process(alloc, args, row, &mut given)?;
     Ok(given)
 }
 

@@ -1,5 +1,6 @@
 // An operator of the tests that does nothing.
 ghost use Rattle.std.specs.Prelude.{true, None, []};
+ghost use Rattle.run_tests.specs.NoRows.{no_rows-extractor, no_rows-processor, no_rows-reducer, no_rows-combiner};
 
 use scope_value::{Cell, Column, Row, Schema, Value};
 use std::alloc::{AllocError, Global};
@@ -19,6 +20,8 @@ impl Extractor for Silent {
       delimits = λ _. s.delimiter;
     } };
 
+    ghost extractor_law = { λ s. no_rows-extractor s.delimiter };
+
     fn fixed(&self, _alloc: Global, _out: &mut Vec<Column>) -> Result<bool, AllocError> {
         Ok(false)
     }
@@ -31,7 +34,7 @@ impl Extractor for Silent {
         self.delimiter
     }
 
-    #[tactic(auto, using(crate::proofs::NoRows::no_rows))]
+    #[tactic(auto, using(crate::specs::NoRows::no_rows))]
     fn extract(
         &self,
         _alloc: Global,
@@ -47,11 +50,13 @@ impl Extractor for Silent {
 impl Processor for Silent {
     ghost told_processor = { λ _. record { takes = λ _ _ _. true; processes = λ _ _. [] } };
 
+    ghost processor_law = { λ _. no_rows-processor };
+
     fn accepts(&self, _input: &Schema, _output: &Schema, _args: &[Cell]) -> bool {
         true
     }
 
-    #[tactic(auto, using(crate::proofs::NoRows::no_rows))]
+    #[tactic(auto, using(crate::specs::NoRows::no_rows))]
     fn process(
         &self,
         _alloc: Global,
@@ -66,11 +71,13 @@ impl Processor for Silent {
 impl Reducer for Silent {
     ghost told_reducer = { λ _. record { takes = λ _ _ _. true; reduces = λ _ _. [] } };
 
+    ghost reducer_law = { λ _. no_rows-reducer };
+
     fn accepts(&self, _input: &Schema, _output: &Schema, _args: &[Cell]) -> bool {
         true
     }
 
-    #[tactic(auto, using(crate::proofs::NoRows::no_rows))]
+    #[tactic(auto, using(crate::specs::NoRows::no_rows))]
     fn reduce(
         &self,
         _alloc: Global,
@@ -85,11 +92,13 @@ impl Reducer for Silent {
 impl Combiner for Silent {
     ghost told_combiner = { λ _. record { takes = λ _ _ _ _. true; combines = λ _ _ _. [] } };
 
+    ghost combiner_law = { λ _. no_rows-combiner };
+
     fn accepts(&self, _left: &Schema, _right: &Schema, _output: &Schema, _args: &[Cell]) -> bool {
         true
     }
 
-    #[tactic(auto, using(crate::proofs::NoRows::no_rows))]
+    #[tactic(auto, using(crate::specs::NoRows::no_rows))]
     fn combine(
         &self,
         _alloc: Global,

@@ -1,9 +1,11 @@
 pub mod Arguments
 pub mod InnerPairs
+pub mod Lawful
 pub mod LogExtractor
 pub mod MultiSetDifference
 pub mod RowCounts
 pub mod SameTypes
+pub mod SameTypesLemmas
 pub mod SplitWords
 pub mod TextExtractor
 pub mod TopQueries

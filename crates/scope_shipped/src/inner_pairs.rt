@@ -2,6 +2,7 @@
 ghost use Rattle.std.specs.Prelude.{◌≡◌, ◌++◌, IfOk, OnOk, OnErr};
 ghost use Rattle.user_ops.specs.Appends.{AddsSome};
 ghost use Rattle.scope_shipped.specs.InnerPairs.{inner_pairs, pairs_of};
+ghost use Rattle.scope_shipped.specs.Lawful.{inner_pairs-lawful};
 
 use crate::same_types::has_types_of_both;
 use scope_value::{Cell, Row, Schema, Value};
@@ -51,6 +52,8 @@ fn push_pairs(
 
 impl Combiner for InnerPairs {
     ghost told_combiner = { λ _. inner_pairs };
+
+    ghost combiner_law = { λ _. inner_pairs-lawful };
 
     fn accepts(&self, left: &Schema, right: &Schema, output: &Schema, args: &[Cell]) -> bool {
         args.is_empty() && has_types_of_both(left.as_slice(), right.as_slice(), output.as_slice())

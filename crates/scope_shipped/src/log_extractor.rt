@@ -3,6 +3,7 @@ ghost use Rattle.std.specs.Prelude.{◌≡◌, ◌++◌, ◌∷◌, [], Some, No
 ghost use Rattle.std.specs.List.{list_all};
 ghost use Rattle.std.specs.Option.{option_copied, option_and_then};
 ghost use Rattle.scope_shipped.specs.LogExtractor.{log_extractor, log_columns, is_named, is_log_column, log_place, log_value, log_values, named};
+ghost use Rattle.scope_shipped.specs.Lawful.{log_extractor-lawful};
 
 use crate::refusals::keep_if_taken;
 use crate::same_types::is_same_type;
@@ -116,6 +117,8 @@ fn push_columns(
 
 impl Extractor for LogExtractor {
     ghost told_extractor = { λ _. log_extractor };
+
+    ghost extractor_law = { λ _. log_extractor-lawful };
 
     fn fixed(&self, alloc: Global, out: &mut Vec<Column>) -> Result<bool, AllocError> {
         let mut columns = fixed_columns(alloc)?;

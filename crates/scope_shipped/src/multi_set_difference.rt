@@ -3,6 +3,7 @@ ghost use Rattle.std.specs.Prelude.{◌≡◌, ◌≤◌, ℕ, IfOk, List, OnOk}
 ghost use Rattle.scope_value.specs.declared.value.Value.{Value as Held};
 ghost use Rattle.scope_shipped.specs.MultiSetDifference.{multi_set_difference, copies};
 ghost use Rattle.scope_shipped.specs.RowCounts.{count_in};
+ghost use Rattle.scope_shipped.specs.Lawful.{multi_set_difference-lawful};
 
 use crate::row_counts::RowCounts;
 use crate::same_types::has_same_types;
@@ -28,6 +29,8 @@ fn counted(alloc: Global, rows: &[Row]) -> Result<RowCounts, AllocError>
 
 impl Combiner for MultiSetDifference {
     ghost told_combiner = { λ _. multi_set_difference };
+
+    ghost combiner_law = { λ _. multi_set_difference-lawful };
 
     fn accepts(&self, left: &Schema, right: &Schema, output: &Schema, args: &[Cell]) -> bool {
         args.is_empty()

@@ -4,6 +4,7 @@ ghost use Rattle.scope_value.specs.declared.value.Value.TheVariants.{Bytes};
 ghost use Rattle.user_ops.specs.Appends.{AddsSome};
 ghost use Rattle.scope_shipped.specs.Words.{words};
 ghost use Rattle.scope_shipped.specs.SplitWords.{split_words, word_rows, begins_with_text, is_one_text};
+ghost use Rattle.scope_shipped.specs.Lawful.{split_words-lawful};
 
 use crate::same_types::is_same_type;
 use scope_value::{Cell, ColType, Column, Row, Schema, Value};
@@ -59,6 +60,8 @@ fn push_words(alloc: Global, text: &[u8], out: &mut Vec<Row>) -> Result<(), Allo
 
 impl Processor for SplitWords {
     ghost told_processor = { λ _. split_words };
+
+    ghost processor_law = { λ _. split_words-lawful };
 
     fn accepts(&self, input: &Schema, output: &Schema, args: &[Cell]) -> bool {
         args.is_empty() && (has_text_first(input.as_slice()) && has_one_text(output.as_slice()))

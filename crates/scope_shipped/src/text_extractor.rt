@@ -2,6 +2,7 @@
 ghost use Rattle.std.specs.Prelude.{◌≡◌, ◌++◌, ◌∷◌, [], Some, None, IfOk, length, take, option_map, if◌then◌else◌};
 ghost use Rattle.row_codec.specs.Rows.{text_extracts};
 ghost use Rattle.scope_shipped.specs.TextExtractor.{text_extractor, delimiter_of, is_delimiter};
+ghost use Rattle.scope_shipped.specs.Lawful.{text_extractor-lawful};
 
 use crate::refusals::keep_if_taken;
 use row_codec::read_field;
@@ -68,6 +69,8 @@ fn push_fields(
 
 impl Extractor for TextExtractor {
     ghost told_extractor = { λ _. text_extractor };
+
+    ghost extractor_law = { λ _. text_extractor-lawful };
 
     fn fixed(&self, _alloc: Global, _out: &mut Vec<Column>) -> Result<bool, AllocError> {
         Ok(false)

@@ -2,6 +2,7 @@
 ghost use Rattle.std.specs.Prelude.{◌≡◌, ◌++◌, unwrap_or, OnOk, OnErr};
 ghost use Rattle.user_ops.specs.Appends.{AddsSome};
 ghost use Rattle.scope_shipped.specs.TopQueries.{row_count, top_queries};
+ghost use Rattle.scope_shipped.specs.Lawful.{top_queries-lawful};
 
 use crate::same_types::has_same_types;
 use row_codec::number_under;
@@ -37,6 +38,8 @@ fn push_copies(rows: &[Row], out: &mut Vec<Row>) -> Result<(), AllocError>
 
 impl Reducer for TopQueries {
     ghost told_reducer = { λ _. top_queries };
+
+    ghost reducer_law = { λ _. top_queries-lawful };
 
     fn accepts(&self, input: &Schema, output: &Schema, args: &[Cell]) -> bool {
         has_same_types(input.as_slice(), output.as_slice()) && count_of(args).is_some()

@@ -1,5 +1,6 @@
 // An extractor for the tests: the smallest one that reads a field by its column's type.
 ghost use Rattle.std.specs.Prelude.{◌≡◌, IfOk};
+ghost use Rattle.script_tests.specs.OneFieldFits.{one_field-lawful};
 ghost use Rattle.script_tests.specs.OneField.{one_field, one_value, only_value};
 
 use row_codec::read_field;
@@ -36,6 +37,8 @@ fn value_of(alloc: Global, columns: &[Column], fields: &[Cell]) -> Result<Option
 impl Extractor for OneField {
     ghost told_extractor = { λ e. one_field e.delimiter };
 
+    ghost extractor_law = { λ e. one_field-lawful e.delimiter };
+
     fn fixed(&self, _alloc: Global, _out: &mut Vec<Column>) -> Result<bool, AllocError> {
         Ok(false)
     }
@@ -48,7 +51,7 @@ impl Extractor for OneField {
         self.delimiter
     }
 
-    #[tactic(auto, using(crate::proofs::OneFieldFits::one_field_fit))]
+    #[tactic(auto, using(crate::specs::OneFieldFits::one_field_fit))]
     fn extract(
         &self,
         alloc: Global,

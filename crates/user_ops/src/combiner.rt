@@ -1,5 +1,6 @@
 // Operators of COMBINE: rows for the rows that two sides have at one key.
 ghost use Rattle.std.specs.Prelude.{◌≡◌, ◌++◌, OnOk, OnErr};
+ghost use Rattle.user_ops.specs.Lawful.{IsLawfulCombiner};
 ghost use Rattle.user_ops.specs.Told.{ToldCombiner};
 ghost use Rattle.user_ops.specs.Appends.{AddsSome, PairGivesFitting};
 
@@ -13,6 +14,10 @@ use std::alloc::{AllocError, Global};
 pub trait Combiner: Drop {
     // Which schemas and args it takes, and the rows that it gives for the rows of two groups.
     ghost told_combiner: { Self → ToldCombiner };
+
+    // Its law: where the rows of each side fit that side's schema, the rows that it gives fit the output, for all schemas and
+    // args that it takes.
+    ghost combiner_law: { (c : Self) → IsLawfulCombiner (told_combiner c) };
 
     /// Whether it takes rows of `left` and of `right` with these args and gives rows of `output`.
     fn accepts(&self, left: &Schema, right: &Schema, output: &Schema, args: &[Cell]) -> bool

@@ -1,5 +1,6 @@
 // Operators of EXTRACT: rows out of the fields of records.
 ghost use Rattle.std.specs.Prelude.{◌≡◌, OnErr, IfOk};
+ghost use Rattle.user_ops.specs.Lawful.{IsLawfulExtractor};
 ghost use Rattle.user_ops.specs.Told.{ToldExtractor};
 ghost use Rattle.user_ops.specs.Extracts.{AppendsWhole, AppendsPart, AreFixedColumns, ReadsFitting};
 
@@ -13,6 +14,10 @@ use std::alloc::{AllocError, Global};
 pub trait Extractor: Drop {
     // Which output schemas and args it takes, the row of the fields, its fixed columns and its delimiter.
     ghost told_extractor: { Self → ToldExtractor };
+
+    // Its law: the row that it reads fits the output, for all outputs and args that it takes; and where it has fixed columns,
+    // they are at least one, all of different names.
+    ghost extractor_law: { (e : Self) → IsLawfulExtractor (told_extractor e) };
 
     /// Whether it has fixed columns. Where it has, they are added at the end of `out`: at least one, all of different
     /// names. An error is want of memory, and `out` may then hold some first ones of them.

@@ -8,6 +8,8 @@
 mod add_fault;
 mod combiner;
 mod extractor;
+mod laws;
+mod named_list;
 mod op_set;
 mod processor;
 mod reducer;
@@ -15,6 +17,7 @@ mod reducer;
 pub use add_fault::AddFault;
 pub use combiner::Combiner;
 pub use extractor::Extractor;
+pub use laws::{lawful_law, width_law};
 pub use op_set::{OpSet, Tells};
 pub use processor::Processor;
 pub use reducer::Reducer;

@@ -6,34 +6,20 @@ ghost use Rattle.std.specs.List.{position};
 use crate::add_fault::AddFault;
 use crate::combiner::Combiner;
 use crate::extractor::Extractor;
+use crate::named_list::NamedList;
 use crate::processor::Processor;
 use crate::reducer::Reducer;
 use scope_value::Cell;
 use std::alloc::Global;
 
-// An operator under its name.
-#[derive(Drop)]
-struct Named<T> {
-    name: Cell,
-    op: T,
-}
-
 /// The operators that a caller hands in, each in its box and under a name of its own within its kind. They have places
 /// there, counted from 0 in the order of adding within each kind.
 #[derive(Drop)]
 pub struct OpSet {
-    extractors: Vec<Named<Box<dyn Extractor>>>,
-    processors: Vec<Named<Box<dyn Processor>>>,
-    reducers: Vec<Named<Box<dyn Reducer>>>,
-    combiners: Vec<Named<Box<dyn Combiner>>>,
-}
-
-// The first place that has the name.
-fn place_of<T>(named: &[Named<T>], name: &[u8]) -> Option<usize>
-    ensures is { result ≡ position (λ n. bytes_eq n.name name.now) named.now }
-    ensures within { IfSome result (λ place. place < length named.now) }
-{
-    named.iter().position(|n| n.name.as_slice() == name)
+    extractors: NamedList<Box<dyn Extractor>>,
+    processors: NamedList<Box<dyn Processor>>,
+    reducers: NamedList<Box<dyn Reducer>>,
+    combiners: NamedList<Box<dyn Combiner>>,
 }
 
 /// What a set of operators tells, in ghost code alone.
@@ -42,23 +28,40 @@ fn place_of<T>(named: &[Named<T>], name: &[u8]) -> Option<usize>
 /// at the same places, what the objects tell. Code that needs the meanings alone is generic in `O: Tells` and writes
 /// `O.tells ops.now`.
 pub trait Tells {
+    ghost use Rattle.user_ops.specs.Lawful.{AreLawful};
     ghost use Rattle.user_ops.specs.Told.{Operators};
 
     ghost tells: { Self → Operators };
+
+    // Each of them keeps the law of its trait.
+    ghost lawful: { (ops : Self) → AreLawful (tells ops) };
 }
 
 impl Tells for OpSet {
-    ghost use Rattle.std.specs.Prelude.{map};
+    ghost use Rattle.std.specs.Prelude.{map, get_or};
+    ghost use Rattle.std.proofs.lemmas.List.Elements.{All-map};
+    ghost use Rattle.user_ops.specs.Lawful.{IsLawfulExtractor, IsLawfulProcessor, IsLawfulReducer, IsLawfulCombiner};
 
     ghost tells = { λ s. record {
-      extractor_names = map (λ n. n.name) s.extractors.items;
-      extractors = map (λ n. (Extractor-box n.op).told_extractor n.op.value) s.extractors.items;
-      processor_names = map (λ n. n.name) s.processors.items;
-      processors = map (λ n. (Processor-box n.op).told_processor n.op.value) s.processors.items;
-      reducer_names = map (λ n. n.name) s.reducers.items;
-      reducers = map (λ n. (Reducer-box n.op).told_reducer n.op.value) s.reducers.items;
-      combiner_names = map (λ n. n.name) s.combiners.items;
-      combiners = map (λ n. (Combiner-box n.op).told_combiner n.op.value) s.combiners.items;
+      extractor_names = map (λ n. n.name) s.extractors.entries.items;
+      extractors = map (λ n. (Extractor-box n.op).told_extractor n.op.value) s.extractors.entries.items;
+      processor_names = map (λ n. n.name) s.processors.entries.items;
+      processors = map (λ n. (Processor-box n.op).told_processor n.op.value) s.processors.entries.items;
+      reducer_names = map (λ n. n.name) s.reducers.entries.items;
+      reducers = map (λ n. (Reducer-box n.op).told_reducer n.op.value) s.reducers.entries.items;
+      combiner_names = map (λ n. n.name) s.combiners.entries.items;
+      combiners = map (λ n. (Combiner-box n.op).told_combiner n.op.value) s.combiners.entries.items;
+    } };
+
+    ghost lawful = { λ s. record {
+      extractors = All-map IsLawfulExtractor (λ n. (Extractor-box n.op).told_extractor n.op.value) s.extractors.entries.items
+          (λ place n within. let op = (get_or s.extractors.entries.items place n).op in (Extractor-box op).extractor_law op.value);
+      processors = All-map IsLawfulProcessor (λ n. (Processor-box n.op).told_processor n.op.value) s.processors.entries.items
+          (λ place n within. let op = (get_or s.processors.entries.items place n).op in (Processor-box op).processor_law op.value);
+      reducers = All-map IsLawfulReducer (λ n. (Reducer-box n.op).told_reducer n.op.value) s.reducers.entries.items
+          (λ place n within. let op = (get_or s.reducers.entries.items place n).op in (Reducer-box op).reducer_law op.value);
+      combiners = All-map IsLawfulCombiner (λ n. (Combiner-box n.op).told_combiner n.op.value) s.combiners.entries.items
+          (λ place n within. let op = (get_or s.combiners.entries.items place n).op in (Combiner-box op).combiner_law op.value);
     } };
 }
 
@@ -77,10 +80,10 @@ impl OpSet {
         } }
     {
         OpSet {
-            extractors: Vec::new(alloc),
-            processors: Vec::new(alloc),
-            reducers: Vec::new(alloc),
-            combiners: Vec::new(alloc),
+            extractors: NamedList::new(alloc),
+            processors: NamedList::new(alloc),
+            reducers: NamedList::new(alloc),
+            combiners: NamedList::new(alloc),
         }
     }
 
@@ -101,16 +104,7 @@ impl OpSet {
         ensures duplicate { IsErrAnd result (λ e. e.1 ≡ AddFault.Duplicate)
             ↔ Contains (⟦<OpSet as Tells>⟧.tells self.old).extractor_names name }
     {
-        if self.find_extractor(name.as_slice()).is_some() {
-            return Err((op, AddFault::Duplicate));
-        }
-        match self.extractors.push(Named { name, op }) {
-            Ok(()) => Ok(()),
-            Err(e) => {
-                let Named { name: _, op } = e.value;
-                Err((op, AddFault::NoMemory))
-            }
-        }
+        self.extractors.add(name, op)
     }
 
     /// The place of the extractor of that name, or None exactly where the set has none.
@@ -118,7 +112,7 @@ impl OpSet {
         ensures is { result ≡ position (λ n. bytes_eq n name.now) (⟦<OpSet as Tells>⟧.tells self.now).extractor_names }
         ensures within { IfSome result (λ place. place < length (⟦<OpSet as Tells>⟧.tells self.now).extractors) }
     {
-        place_of(self.extractors.as_slice(), name)
+        self.extractors.find(name)
     }
 
     /// The extractor at a place, where one stands.
@@ -126,7 +120,7 @@ impl OpSet {
         requires { place < length (⟦<OpSet as Tells>⟧.tells self.now).extractors }
         ensures { slice_get (⟦<OpSet as Tells>⟧.tells self.now).extractors place ≡ Some (told_extractor result.now) }
     {
-        &self.extractors[place].op
+        &self.extractors.entries[place].op
     }
 
     /// Adds a processor at the end of its kind. A refusal hands the box back and changes nothing: `Duplicate` exactly where the
@@ -146,16 +140,7 @@ impl OpSet {
         ensures duplicate { IsErrAnd result (λ e. e.1 ≡ AddFault.Duplicate)
             ↔ Contains (⟦<OpSet as Tells>⟧.tells self.old).processor_names name }
     {
-        if self.find_processor(name.as_slice()).is_some() {
-            return Err((op, AddFault::Duplicate));
-        }
-        match self.processors.push(Named { name, op }) {
-            Ok(()) => Ok(()),
-            Err(e) => {
-                let Named { name: _, op } = e.value;
-                Err((op, AddFault::NoMemory))
-            }
-        }
+        self.processors.add(name, op)
     }
 
     /// The place of the processor of that name, or None exactly where the set has none.
@@ -163,7 +148,7 @@ impl OpSet {
         ensures is { result ≡ position (λ n. bytes_eq n name.now) (⟦<OpSet as Tells>⟧.tells self.now).processor_names }
         ensures within { IfSome result (λ place. place < length (⟦<OpSet as Tells>⟧.tells self.now).processors) }
     {
-        place_of(self.processors.as_slice(), name)
+        self.processors.find(name)
     }
 
     /// The processor at a place, where one stands.
@@ -171,7 +156,7 @@ impl OpSet {
         requires { place < length (⟦<OpSet as Tells>⟧.tells self.now).processors }
         ensures { slice_get (⟦<OpSet as Tells>⟧.tells self.now).processors place ≡ Some (told_processor result.now) }
     {
-        &self.processors[place].op
+        &self.processors.entries[place].op
     }
 
     /// Adds a reducer at the end of its kind. A refusal hands the box back and changes nothing: `Duplicate` exactly where the
@@ -191,16 +176,7 @@ impl OpSet {
         ensures duplicate { IsErrAnd result (λ e. e.1 ≡ AddFault.Duplicate)
             ↔ Contains (⟦<OpSet as Tells>⟧.tells self.old).reducer_names name }
     {
-        if self.find_reducer(name.as_slice()).is_some() {
-            return Err((op, AddFault::Duplicate));
-        }
-        match self.reducers.push(Named { name, op }) {
-            Ok(()) => Ok(()),
-            Err(e) => {
-                let Named { name: _, op } = e.value;
-                Err((op, AddFault::NoMemory))
-            }
-        }
+        self.reducers.add(name, op)
     }
 
     /// The place of the reducer of that name, or None exactly where the set has none.
@@ -208,7 +184,7 @@ impl OpSet {
         ensures is { result ≡ position (λ n. bytes_eq n name.now) (⟦<OpSet as Tells>⟧.tells self.now).reducer_names }
         ensures within { IfSome result (λ place. place < length (⟦<OpSet as Tells>⟧.tells self.now).reducers) }
     {
-        place_of(self.reducers.as_slice(), name)
+        self.reducers.find(name)
     }
 
     /// The reducer at a place, where one stands.
@@ -216,7 +192,7 @@ impl OpSet {
         requires { place < length (⟦<OpSet as Tells>⟧.tells self.now).reducers }
         ensures { slice_get (⟦<OpSet as Tells>⟧.tells self.now).reducers place ≡ Some (told_reducer result.now) }
     {
-        &self.reducers[place].op
+        &self.reducers.entries[place].op
     }
 
     /// Adds a combiner at the end of its kind. A refusal hands the box back and changes nothing: `Duplicate` exactly where the
@@ -236,16 +212,7 @@ impl OpSet {
         ensures duplicate { IsErrAnd result (λ e. e.1 ≡ AddFault.Duplicate)
             ↔ Contains (⟦<OpSet as Tells>⟧.tells self.old).combiner_names name }
     {
-        if self.find_combiner(name.as_slice()).is_some() {
-            return Err((op, AddFault::Duplicate));
-        }
-        match self.combiners.push(Named { name, op }) {
-            Ok(()) => Ok(()),
-            Err(e) => {
-                let Named { name: _, op } = e.value;
-                Err((op, AddFault::NoMemory))
-            }
-        }
+        self.combiners.add(name, op)
     }
 
     /// The place of the combiner of that name, or None exactly where the set has none.
@@ -253,7 +220,7 @@ impl OpSet {
         ensures is { result ≡ position (λ n. bytes_eq n name.now) (⟦<OpSet as Tells>⟧.tells self.now).combiner_names }
         ensures within { IfSome result (λ place. place < length (⟦<OpSet as Tells>⟧.tells self.now).combiners) }
     {
-        place_of(self.combiners.as_slice(), name)
+        self.combiners.find(name)
     }
 
     /// The combiner at a place, where one stands.
@@ -261,6 +228,6 @@ impl OpSet {
         requires { place < length (⟦<OpSet as Tells>⟧.tells self.now).combiners }
         ensures { slice_get (⟦<OpSet as Tells>⟧.tells self.now).combiners place ≡ Some (told_combiner result.now) }
     {
-        &self.combiners[place].op
+        &self.combiners.entries[place].op
     }
 }

@@ -1,5 +1,6 @@
 // Operators of PROCESS: rows for one row.
 ghost use Rattle.std.specs.Prelude.{◌≡◌, ◌++◌, OnOk, OnErr};
+ghost use Rattle.user_ops.specs.Lawful.{IsLawfulProcessor};
 ghost use Rattle.user_ops.specs.Told.{ToldProcessor};
 ghost use Rattle.user_ops.specs.Appends.{AddsSome, GivesFitting};
 
@@ -12,6 +13,9 @@ use std::alloc::{AllocError, Global};
 pub trait Processor: Drop {
     // Which schemas and args it takes, and the rows that it gives for a row.
     ghost told_processor: { Self → ToldProcessor };
+
+    // Its law: where a row fits its schema, the rows that it gives fit the output, for all schemas and args that it takes.
+    ghost processor_law: { (p : Self) → IsLawfulProcessor (told_processor p) };
 
     /// Whether it takes rows of `input` with these args and gives rows of `output`.
     fn accepts(&self, input: &Schema, output: &Schema, args: &[Cell]) -> bool

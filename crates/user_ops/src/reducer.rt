@@ -1,5 +1,6 @@
 // Operators of REDUCE: rows for the rows of one group.
 ghost use Rattle.std.specs.Prelude.{◌≡◌, ◌++◌, OnOk, OnErr};
+ghost use Rattle.user_ops.specs.Lawful.{IsLawfulReducer};
 ghost use Rattle.user_ops.specs.Told.{ToldReducer};
 ghost use Rattle.user_ops.specs.Appends.{AddsSome, GroupGivesFitting};
 
@@ -12,6 +13,10 @@ use std::alloc::{AllocError, Global};
 pub trait Reducer: Drop {
     // Which schemas and args it takes, and the rows that it gives for the rows of a group.
     ghost told_reducer: { Self → ToldReducer };
+
+    // Its law: where the rows of a group fit their schema, the rows that it gives fit the output, for all schemas and args
+    // that it takes.
+    ghost reducer_law: { (r : Self) → IsLawfulReducer (told_reducer r) };
 
     /// Whether it takes rows of `input` with these args and gives rows of `output`.
     fn accepts(&self, input: &Schema, output: &Schema, args: &[Cell]) -> bool

@@ -1,5 +1,5 @@
 use Rattle.std.proofs.Common.{◌≡◌, length, sym, rules}
-use Rattle.scope_shipped.proofs.SameTypesLemmas.{other_length}
+use Rattle.scope_shipped.specs.SameTypesLemmas.{other_length}
 use Rattle.scope_shipped.proofs.same_types.has_same_types.Goals as goal
 
 pub returns-then-a-b : goal.returns-then-a-b

@@ -1,5 +1,5 @@
 use Rattle.std.proofs.Common.{◌∙◌, sym, rules}
-use Rattle.scope_shipped.proofs.SameTypesLemmas.{too_few, joined-then, joined-else}
+use Rattle.scope_shipped.specs.SameTypesLemmas.{too_few, joined-then, joined-else}
 use Rattle.scope_shipped.proofs.same_types.has_types_of_both.Goals as goal
 
 pub returns-then-both-first : goal.returns-then-both-first

@@ -5,6 +5,7 @@ use Rattle.scope_value.specs.declared.schema.Column.{Column}
 use Rattle.scope_value.specs.declared.value.Value.{Value}
 use Rattle.scope_value.specs.Fits.{Fits}
 use Rattle.user_ops.specs.Extracts.{ReadsFitting, RowOfOutput}
+use Rattle.user_ops.specs.Lawful.{IsLawfulExtractor}
 use Rattle.script_tests.specs.OneField.{one_field, one_value, only_value}
 use Rattle.row_codec.specs.Records.{Record}
 use Rattle.row_codec.specs.Fitting.{field_fits}
@@ -26,3 +27,6 @@ row_fits_one (c ∷ (_ ∷ _)) fields = tt
 -- the only value fits the only column
 pub one_field_fit : (delimiter : ℕ) (args : List (List ℕ)) (output : List Column) (fields : Record) → ReadsFitting (one_field delimiter) args output fields
 one_field_fit delimiter args output fields = record { fit = λ taken. row_fits_one output fields }
+
+pub one_field-lawful : (delimiter : ℕ) → IsLawfulExtractor (one_field delimiter)
+one_field-lawful delimiter = record { reads = one_field_fit delimiter; fixed = tt }

@@ -1,7 +1,8 @@
--- The rows that the operators give fit.
-use Rattle.std.proofs.Common.{◌≡◌, ℕ, Bool, List, [], ◌∷◌, ◌++◌, true, false, ◌&&◌, ◌==◌, ◌-◌, unwrap_or, is_some, get_or, length, nat_le, Option, Some, None, if◌then◌else◌}
+-- The law of each operator: the rows that it gives fit.
+use Rattle.std.proofs.Common.{◌≡◌, ◌≢◌, ℕ, codes, Bool, List, [], ◌∷◌, ◌++◌, true, false, ◌&&◌, ◌==◌, ◌-◌, arith, unwrap_or, is_some, get_or, length, nat_le, Option, Some, None, if◌then◌else◌}
 use Rattle.std.specs.List.{flat_map}
-use Rattle.std.proofs.lemmas.List.Elements.{All-nil, All-cons, All-head, All-tail, All-append, All-take, All-weaker, All-map}
+use Rattle.std.proofs.lemmas.List.Elements.{All-nil, All-cons, All-head, All-tail, All-append, All-take, All-weaker, All-map, All-from_recursion}
+use Rattle.std.proofs.lemmas.List.Kept.{AllPairs-cons}
 use Rattle.std.specs.Prelude.{All, IfSome, slice_get}
 use Rattle.std.specs.Option.{option_and_then}
 use Rattle.scope_value.specs.declared.schema.ColType.{ColType}
@@ -14,17 +15,18 @@ use Rattle.row_codec.specs.Fields.{field_value}
 use Rattle.row_codec.specs.Rows.{with_value, text_extracts}
 use Rattle.row_codec.specs.Fitting.{field_fits, row_fits}
 use Rattle.user_ops.specs.Appends.{AllFit, GivesFitting, GroupGivesFitting, PairGivesFitting}
-use Rattle.user_ops.specs.Extracts.{ReadsFitting, RowOfOutput}
+use Rattle.user_ops.specs.Extracts.{ReadsFitting, RowOfOutput, AreFixedColumns}
+use Rattle.user_ops.specs.Lawful.{IsLawfulExtractor, IsLawfulProcessor, IsLawfulReducer, IsLawfulCombiner}
 use Rattle.scope_shipped.specs.Arguments.{has_none}
 use Rattle.scope_shipped.specs.InnerPairs.{inner_pairs, pairs_of}
-use Rattle.scope_shipped.specs.LogExtractor.{log_extractor, log_value, log_values, log_place}
+use Rattle.scope_shipped.specs.LogExtractor.{log_extractor, log_columns, log_value, log_values, log_place}
 use Rattle.scope_shipped.specs.MultiSetDifference.{multi_set_difference, last_copies, copies}
 use Rattle.scope_shipped.specs.SameTypes.{same_type, same_types}
 use Rattle.scope_shipped.specs.SplitWords.{split_words, rows_of_words, is_one_text, begins_with_text}
 use Rattle.scope_shipped.specs.TextExtractor.{text_extractor}
 use Rattle.scope_shipped.specs.TopQueries.{row_count, top_queries}
 use Rattle.scope_shipped.specs.Words.{words}
-use Rattle.scope_shipped.proofs.SameTypesLemmas.{and-first, and-second, RowFits-same, RowFits-append}
+use Rattle.scope_shipped.specs.SameTypesLemmas.{and-first, and-second, RowFits-same, RowFits-append}
 
 -- the first rows of a group
 pub top_queries-fit : (args : List (List ℕ)) (rows : List (List Value)) → GroupGivesFitting top_queries args rows
@@ -135,3 +137,46 @@ if-fits false output o h = tt
 -- a row of a log
 pub log_extractor-fit : (args : List (List ℕ)) (output : List Column) (fields : List (List ℕ)) → ReadsFitting log_extractor args output fields
 log_extractor-fit args output fields = record { fit = λ taken. if-fits (length fields == 3) output (log_values fields output) (log_values-fit fields output) }
+
+-- ---- the laws
+
+-- the fixed columns of a log have three names
+log_columns-fixed : AreFixedColumns (Some log_columns)
+log_columns-fixed = (
+  omega arith,
+  AllPairs-cons AreOther (codes "user") (codes "query" ∷ codes "clicks" ∷ [])
+      (All-from_recursion (AreOther (codes "user")) (codes "query" ∷ codes "clicks" ∷ []) (user-query, (user-clicks, tt)))
+      (AllPairs-cons AreOther (codes "query") (codes "clicks" ∷ [])
+      (All-from_recursion (AreOther (codes "query")) (codes "clicks" ∷ []) (query-clicks, tt))
+      (AllPairs-cons AreOther (codes "clicks") [] (All-nil (AreOther (codes "clicks"))) (λ i j d lt within. absurd (omega arith)))),
+)
+  where
+    AreOther : List ℕ → List ℕ → Type 0
+    AreOther a b = a ≢ b
+
+    user-query : codes "user" ≢ codes "query"
+    user-query e = absurd (cc)
+
+    user-clicks : codes "user" ≢ codes "clicks"
+    user-clicks e = absurd (cc)
+
+    query-clicks : codes "query" ≢ codes "clicks"
+    query-clicks e = absurd (cc)
+
+pub top_queries-lawful : IsLawfulReducer top_queries
+top_queries-lawful = record { gives = top_queries-fit }
+
+pub split_words-lawful : IsLawfulProcessor split_words
+split_words-lawful = record { gives = split_words-fit }
+
+pub multi_set_difference-lawful : IsLawfulCombiner multi_set_difference
+multi_set_difference-lawful = record { gives = multi_set_difference-fit }
+
+pub inner_pairs-lawful : IsLawfulCombiner inner_pairs
+inner_pairs-lawful = record { gives = inner_pairs-fit }
+
+pub text_extractor-lawful : IsLawfulExtractor text_extractor
+text_extractor-lawful = record { reads = text_extractor-fit; fixed = tt }
+
+pub log_extractor-lawful : IsLawfulExtractor log_extractor
+log_extractor-lawful = record { reads = log_extractor-fit; fixed = log_columns-fixed }

@@ -6,6 +6,7 @@ use Rattle.scope_value.specs.declared.schema.Column.{Column}
 use Rattle.scope_value.specs.declared.value.Value.TheVariants.{Bytes}
 use Rattle.scope_value.specs.Fits.{Fits, RowFits}
 use Rattle.user_ops.specs.Extracts.{ReadsFitting}
+use Rattle.user_ops.specs.Lawful.{IsLawfulExtractor}
 use Rattle.run_tests.specs.Marking.{marking, is_text, is_one_text}
 
 text_fits : (k : ColType) → is_text k ≡ true → Fits k (Bytes (codes "seen"))
@@ -21,3 +22,6 @@ row_fits (c ∷ d ∷ more) h = absurd (cc)
 
 pub marking_fits : (args : List (List ℕ)) (output : List Column) (fields : List (List ℕ)) → ReadsFitting marking args output fields
 marking_fits args output fields = record { fit = row_fits output }
+
+pub marking-lawful : IsLawfulExtractor marking
+marking-lawful = record { reads = marking_fits; fixed = tt }
