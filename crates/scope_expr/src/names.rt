@@ -5,9 +5,9 @@ ghost use Rattle.scope_expr.specs.Names as spec;
 
 use crate::expr::Expr;
 use crate::scope::{Entry, Scope};
-use script_trees::{RawExpr, RawRef};
 use crate::sight::is_named;
 use scope_value::Value;
+use script_trees::{RawExpr, RawRef};
 use sqlite_items::Boxed;
 use std::alloc::{AllocError, Global};
 

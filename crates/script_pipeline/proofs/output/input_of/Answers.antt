@@ -1,7 +1,7 @@
 use Rattle.std.proofs.Common.{IfOk, List, ℕ, subst}
 use Rattle.row_codec.specs.Rows.{Answers, rows_from}
 use Rattle.row_codec.specs.Records.{records_of}
-use Rattle.scope_app.proofs.output.input_of.Goals as goal
+use Rattle.script_pipeline.proofs.output.input_of.Goals as goal
 
 -- the object in the box is the one that is lent
 pub returns : goal.returns
