@@ -40,7 +40,8 @@ fn check(
     place: Place,
     wanted: Known,
 ) -> Result<(), AllocError> {
-    for facts in facts_in(alloc, script, place)? {
+    let both = facts_in(alloc, script, place)?;
+    for facts in both {
         assert_eq!(rt; facts.columns, wanted.columns);
         assert_eq!(rt; facts.constants, wanted.constants);
         assert_eq!(rt; closure(&facts, wanted.from), wanted.forced);
