@@ -8,13 +8,6 @@ use std::alloc::{AllocError, Global};
 use std::process::Abort;
 use std::test::Fail;
 
-// What is known of a place of the script, as it is worked out, and as it is looked up.
-fn facts_in(alloc: Global, script: Script, place: Place) -> Result<[Facts; 2], AllocError> {
-    let dag = dag_of(alloc, script)?;
-    let known = DagFacts::new(alloc, &dag)?;
-    Ok([facts_at(&dag, &place), known.at(&place)])
-}
-
 // What is known of it: its columns, the constants, and the columns that those of `from` force.
 #[derive(Clone, Copy)]
 struct Known {
@@ -33,6 +26,13 @@ fn known_of(columns: &[ColId], constants: &[ColId], from: &[ColId], forced: &[Co
     }
 }
 
+fn check_facts(rt: &impl Abort, facts: &Facts, wanted: &Known) {
+    assert_eq!(rt; facts.columns, wanted.columns);
+    assert_eq!(rt; facts.constants, wanted.constants);
+    assert_eq!(rt; closure(facts, wanted.from), wanted.forced);
+}
+
+// The facts at the place, as they are worked out and as they are looked up.
 fn check(
     rt: &impl Abort,
     alloc: Global,
@@ -40,12 +40,10 @@ fn check(
     place: Place,
     wanted: Known,
 ) -> Result<(), AllocError> {
-    let both = facts_in(alloc, script, place)?;
-    for facts in both {
-        assert_eq!(rt; facts.columns, wanted.columns);
-        assert_eq!(rt; facts.constants, wanted.constants);
-        assert_eq!(rt; closure(&facts, wanted.from), wanted.forced);
-    }
+    let dag = dag_of(alloc, script)?;
+    check_facts(rt, &facts_at(&dag, &place), &wanted);
+    let known = DagFacts::new(alloc, &dag)?;
+    check_facts(rt, &known.at(&place), &wanted);
     Ok(())
 }
 
