@@ -46,8 +46,8 @@ fn add_shipped(alloc: Global, ops: &mut OpSet) -> Result<(), AllocError> {
 }
 
 // Where what was refused is dropped, the refusal is want of memory.
-fn added<T>(result: Result<(), T>) -> Result<(), AllocError> {
-    match result {
+fn added<T: Drop>(answer: Result<(), T>) -> Result<(), AllocError> {
+    match answer {
         Ok(()) => Ok(()),
         Err(_) => Err(AllocError),
     }
