@@ -15,6 +15,28 @@ use std::process::ExitCode;
 use std::rt::{Env, Files};
 use user_ops::OpSet;
 
+// The names of the shipped operators.
+#[derive(Drop)]
+struct Names {
+    log: Cell,
+    text: Cell,
+    split: Cell,
+    top: Cell,
+    difference: Cell,
+    pairs: Cell,
+}
+
+// The shipped operators, each in a box of its own.
+#[derive(Drop)]
+struct Boxes {
+    log: Box<LogExtractor>,
+    text: Box<TextExtractor>,
+    split: Box<SplitWords>,
+    top: Box<TopQueries>,
+    difference: Box<MultiSetDifference>,
+    pairs: Box<InnerPairs>,
+}
+
 fn main(rt: HostRuntime) -> ExitCode {
     let alloc = rt.alloc();
     let status = run(&rt, alloc).unwrap_or(Status::NoMemory);
@@ -29,64 +51,75 @@ fn main(rt: HostRuntime) -> ExitCode {
 // Makes all that the top call is handed, and calls it.
 fn run<R: Env + Files + AllocGlobal>(rt: &R, alloc: Global) -> Result<Status, AllocError> {
     let words = words_of(rt, alloc)?;
+    let names = shipped_names(alloc)?;
+    let boxes = shipped_boxes(alloc)?;
+    Ok(run_over_files(rt, alloc, words.as_slice(), names, boxes))
+}
+
+fn run_over_files<R: Files>(
+    rt: &R,
+    alloc: Global,
+    words: &[String],
+    names: Names,
+    boxes: Boxes,
+) -> Status {
+    let Names {
+        log: log_name,
+        text: text_name,
+        split: split_name,
+        top: top_name,
+        difference: difference_name,
+        pairs: pairs_name,
+    } = names;
+    let Boxes {
+        log,
+        text,
+        split,
+        top,
+        difference,
+        pairs,
+    } = boxes;
     let mut ops = OpSet::new(alloc);
-    add_shipped(alloc, &mut ops)?;
-    let mut store = FileStore::new(alloc, rt);
-    Ok(scope_main(alloc, words.as_slice(), &mut store, &ops))
-}
-
-// Adds the shipped operators. No name stands twice, so that a refusal is want of memory.
-fn add_shipped(alloc: Global, ops: &mut OpSet) -> Result<(), AllocError> {
-    add_log_extractor(alloc, ops)?;
-    add_text_extractor(alloc, ops)?;
-    add_split_words(alloc, ops)?;
-    add_top_queries(alloc, ops)?;
-    add_multi_set_difference(alloc, ops)?;
-    add_inner_pairs(alloc, ops)
-}
-
-// Where what was refused is dropped, the refusal is want of memory.
-fn added<T: Drop>(answer: Result<(), T>) -> Result<(), AllocError> {
-    match answer {
-        Ok(()) => Ok(()),
-        Err(_) => Err(AllocError),
+    // Each answer is dropped before the next call, so that no two boxes that were handed back are alive at once.
+    let has_log = ops.add_extractor(log_name, log).is_ok();
+    let has_text = ops.add_extractor(text_name, text).is_ok();
+    let has_split = ops.add_processor(split_name, split).is_ok();
+    let has_top = ops.add_reducer(top_name, top).is_ok();
+    let has_difference = ops.add_combiner(difference_name, difference).is_ok();
+    let has_pairs = ops.add_combiner(pairs_name, pairs).is_ok();
+    // No name stands twice, so that a refusal is want of memory.
+    if has_log && has_text && has_split && has_top && has_difference && has_pairs {
+        call(rt, alloc, words, &ops)
+    } else {
+        Status::NoMemory
     }
 }
 
-fn add_log_extractor(alloc: Global, ops: &mut OpSet) -> Result<(), AllocError> {
-    let name = Cell::from_slice(alloc, b"LogExtractor")?;
-    let op = Box::new(alloc, LogExtractor)?;
-    added(ops.add_extractor(name, op))
+fn call<R: Files>(rt: &R, alloc: Global, words: &[String], ops: &OpSet) -> Status {
+    let mut store = FileStore::new(alloc, rt);
+    scope_main(alloc, words, &mut store, ops)
 }
 
-fn add_text_extractor(alloc: Global, ops: &mut OpSet) -> Result<(), AllocError> {
-    let name = Cell::from_slice(alloc, b"TextExtractor")?;
-    let op = Box::new(alloc, TextExtractor)?;
-    added(ops.add_extractor(name, op))
+fn shipped_boxes(alloc: Global) -> Result<Boxes, AllocError> {
+    Ok(Boxes {
+        log: Box::new(alloc, LogExtractor)?,
+        text: Box::new(alloc, TextExtractor)?,
+        split: Box::new(alloc, SplitWords)?,
+        top: Box::new(alloc, TopQueries)?,
+        difference: Box::new(alloc, MultiSetDifference)?,
+        pairs: Box::new(alloc, InnerPairs)?,
+    })
 }
 
-fn add_split_words(alloc: Global, ops: &mut OpSet) -> Result<(), AllocError> {
-    let name = Cell::from_slice(alloc, b"SplitWords")?;
-    let op = Box::new(alloc, SplitWords)?;
-    added(ops.add_processor(name, op))
-}
-
-fn add_top_queries(alloc: Global, ops: &mut OpSet) -> Result<(), AllocError> {
-    let name = Cell::from_slice(alloc, b"TopQueries")?;
-    let op = Box::new(alloc, TopQueries)?;
-    added(ops.add_reducer(name, op))
-}
-
-fn add_multi_set_difference(alloc: Global, ops: &mut OpSet) -> Result<(), AllocError> {
-    let name = Cell::from_slice(alloc, b"MultiSetDifference")?;
-    let op = Box::new(alloc, MultiSetDifference)?;
-    added(ops.add_combiner(name, op))
-}
-
-fn add_inner_pairs(alloc: Global, ops: &mut OpSet) -> Result<(), AllocError> {
-    let name = Cell::from_slice(alloc, b"InnerPairs")?;
-    let op = Box::new(alloc, InnerPairs)?;
-    added(ops.add_combiner(name, op))
+fn shipped_names(alloc: Global) -> Result<Names, AllocError> {
+    Ok(Names {
+        log: Cell::from_slice(alloc, b"LogExtractor")?,
+        text: Cell::from_slice(alloc, b"TextExtractor")?,
+        split: Cell::from_slice(alloc, b"SplitWords")?,
+        top: Cell::from_slice(alloc, b"TopQueries")?,
+        difference: Cell::from_slice(alloc, b"MultiSetDifference")?,
+        pairs: Cell::from_slice(alloc, b"InnerPairs")?,
+    })
 }
 
 // The word, or `scope` in place of the first one, which is the program's own name.
@@ -106,7 +139,8 @@ fn put_word(
     words: &mut Vec<String>,
 ) -> Result<(), AllocError> {
     let word = word_at(alloc, at, word)?;
-    added(words.push(word))
+    words.push(word)?;
+    Ok(())
 }
 
 // The process's words, with `scope` in place of the program's own name; none where a word isn't UTF-8, which no reading takes.
