@@ -47,7 +47,8 @@ fn is_number(kind: ColType) -> bool
     matches!(kind, ColType::Int | ColType::Long)
 }
 
-fn are_alike(j: ColType, k: ColType) -> bool
+/// Whether the types are two numbers, two strings or two truth values.
+pub fn are_alike(j: ColType, k: ColType) -> bool
     ensures { result ≡ spec.are_alike j k }
 {
     match j {
@@ -117,7 +118,7 @@ fn is_long(number: i64) -> bool
 
 /// Whether each operator of the expression has operands of the types that it takes.
 #[tactic(auto, using(crate::proofs::ExprLemmas::typed_neg, crate::proofs::ExprLemmas::typed_not, crate::proofs::ExprLemmas::typed_pair))]
-pub(crate) fn is_typed(e: &Expr) -> bool
+pub fn is_typed(e: &Expr) -> bool
     ensures { result ≡ spec.is_typed e.now }
 {
     match e {

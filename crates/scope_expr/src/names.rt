@@ -11,7 +11,8 @@ use script_trees::{RawExpr, RawRef};
 use sqlite_items::Boxed;
 use std::alloc::{AllocError, Global};
 
-fn column_of<'a>(names: &'a Scope, r: &RawRef) -> Option<&'a Entry>
+/// The first column in sight that a reference names.
+pub fn column_of<'a>(names: &'a Scope, r: &RawRef) -> Option<&'a Entry>
     ensures { option_copied result ≡ spec.column_of names.now r.now }
 {
     for entry in names.entries.as_slice() {
@@ -22,7 +23,8 @@ fn column_of<'a>(names: &'a Scope, r: &RawRef) -> Option<&'a Entry>
     None
 }
 
-fn is_unknown(names: &Scope, r: &RawRef) -> bool
+/// Whether no column in sight has the name.
+pub fn is_unknown(names: &Scope, r: &RawRef) -> bool
     ensures { result ≡ spec.is_unknown names.now r.now }
 {
     column_of(names, r).is_none()
@@ -43,14 +45,16 @@ fn has_two(names: &Scope, r: &RawRef) -> bool
     false
 }
 
-fn is_ambiguous(names: &Scope, r: &RawRef) -> bool
+/// Whether the reference has no alias and two columns in sight have the name.
+pub fn is_ambiguous(names: &Scope, r: &RawRef) -> bool
     ensures { result ≡ spec.is_ambiguous names.now r.now }
 {
     r.alias.is_none() && has_two(names, r)
 }
 
+/// Whether some reference in the expression is unknown; an aggregate that isn't listed counts as one.
 #[tactic(auto, using(crate::proofs::RawLemmas::some_neg, crate::proofs::RawLemmas::some_not, crate::proofs::RawLemmas::some_pair))]
-pub(crate) fn has_unknown(names: &Scope, e: &RawExpr) -> bool
+pub fn has_unknown(names: &Scope, e: &RawExpr) -> bool
     ensures { result ≡ spec.has_unknown names.now e.now }
 {
     match e {
@@ -62,8 +66,9 @@ pub(crate) fn has_unknown(names: &Scope, e: &RawExpr) -> bool
     }
 }
 
+/// Whether some reference in the expression is ambiguous.
 #[tactic(auto, using(crate::proofs::RawLemmas::some_neg, crate::proofs::RawLemmas::some_not, crate::proofs::RawLemmas::some_pair))]
-pub(crate) fn has_ambiguous(names: &Scope, e: &RawExpr) -> bool
+pub fn has_ambiguous(names: &Scope, e: &RawExpr) -> bool
     ensures { result ≡ spec.has_ambiguous names.now e.now }
 {
     match e {
@@ -92,9 +97,11 @@ fn agg_column(names: &Scope, number: u32) -> Expr
     }
 }
 
-/// The expression with each reference and each aggregate replaced by its column.
+/// The expression with each reference and each aggregate replaced by its column, and by NULL where there is none: whether the names
+/// are in sight and the types go together is asked by [`has_unknown`], [`has_ambiguous`] and [`is_typed`](crate::is_typed). An error is
+/// want of memory.
 #[tactic(auto, using(crate::proofs::RawLemmas::bound_neg, crate::proofs::RawLemmas::bound_not, crate::proofs::RawLemmas::bound_pair))]
-pub(crate) fn bind(alloc: Global, names: &Scope, e: &RawExpr) -> Result<Expr, AllocError>
+pub fn bind(alloc: Global, names: &Scope, e: &RawExpr) -> Result<Expr, AllocError>
     ensures { IfOk result (λ b. b ≡ spec.bound names.now e.now) }
 {
     match e {

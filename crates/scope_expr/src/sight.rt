@@ -18,7 +18,7 @@ fn is_of(alias: &Option<Cell>, source: &Option<Cell>) -> bool
 }
 
 /// Whether the entry is a column of that name.
-pub(crate) fn is_named(r: &RawRef, entry: &Entry) -> bool
+pub fn is_named(r: &RawRef, entry: &Entry) -> bool
     ensures { result ≡ spec.is_named r.now entry.now }
 {
     r.name == entry.name && is_of(&r.alias, &entry.alias)

@@ -5,17 +5,19 @@ use crate::raw::RawRef;
 use crate::ref_pair::RefPair;
 use crate::select::Select;
 use crate::source::Source;
+use crate::stored::RawStored;
 use scope_value::{Cell, Column};
 use sqlite_items::Items;
 
 /// A command as it is written. Where an input is left out it is the result of the command just before.
 #[derive(Drop)]
 pub enum Command {
-    /// Reads a stream.
+    /// Reads a stream, of which may be declared how it is stored.
     Extract {
         cols: Items<Column>,
         stream: Cell,
         call: Call,
+        stored: Option<RawStored>,
     },
     /// Filters, joins, groups and sorts.
     Select(Select),
@@ -43,10 +45,11 @@ pub enum Command {
         call: Call,
         cols: Items<Column>,
     },
-    /// Writes a stream.
+    /// Writes a stream, stored where that is declared.
     Output {
         source: Option<Cell>,
         stream: Cell,
         outputter: Option<Cell>,
+        stored: Option<RawStored>,
     },
 }

@@ -14,7 +14,9 @@ mod raw_agg;
 mod ref_pair;
 mod script;
 mod select;
+mod side;
 mod source;
+mod stored;
 
 pub use agg::AggKind;
 pub use call::Call;
@@ -27,4 +29,6 @@ pub use raw_agg::RawAgg;
 pub use ref_pair::RefPair;
 pub use script::{Script, Statement};
 pub use select::{Joined, Select};
+pub use side::JoinSide;
 pub use source::{Origin, Source};
+pub use stored::RawStored;

@@ -4,13 +4,16 @@ use crate::key::RawKey;
 use crate::raw::{RawExpr, RawRef};
 use crate::raw_agg::RawAgg;
 use crate::ref_pair::RefPair;
+use crate::side::JoinSide;
 use crate::source::Source;
 use sqlite_items::Items as Sequence;
 
-/// A source of FROM, and the equalities that join it to those before it. The first source has none.
+/// A source of FROM, and how it is joined to those before it: the side of the join, and its equalities. The first source
+/// has the side Inner and no equalities.
 #[derive(Drop)]
 pub struct Joined {
     pub source: Source,
+    pub side: JoinSide,
     pub on: Sequence<RefPair>,
 }
 
