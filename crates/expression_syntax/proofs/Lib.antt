@@ -13,5 +13,6 @@ pub mod OneTerminal
 pub mod Exact
 pub mod Closed
 pub mod PartLaws
+pub mod Weak
 pub mod First
 pub mod ItemLaws

@@ -25,7 +25,7 @@ use Rattle.expression_syntax.proofs.ExpressionLaws.{ref_complete, ref_sound}
 use Rattle.expression_syntax.proofs.Follow.{bound}
 use Rattle.expression_syntax.proofs.Forward.{at, eat_no, eat_yes, expect_yes, name_known, take_known}
 use Rattle.expression_syntax.proofs.Sound.{TookRef, take_name_takes}
-use Rattle.expression_syntax.proofs.Steps.{Same, Takes, eat_false, eat_true, expect_begins, some_same, take_takes, twice, up_to}
+use Rattle.expression_syntax.proofs.Steps.{Same, Takes, eat_false, eat_true, expect_begins, some_same, symbol_true, take_takes, twice, up_to}
 
 -- whatever follows
 abbrev pub Any : List Lexeme → Type 0
@@ -308,6 +308,19 @@ source_exact = record { sound = source_sound; complete = source_complete }
 
 -- ---- references, keys, equalities
 
+-- a closing bracket ties to nothing before it
+close_bound : (rest : List Lexeme) → begins (is_symbol mark.Close) rest ≡ true → bound rest < 8
+close_bound [] h = absurd (cc)
+close_bound (t ∷ ts) h = rw (symbol_true mark.Close t h) (omega arith)
+
+close_comma : (rest : List Lexeme) → begins (is_symbol mark.Close) rest ≡ true → begins is_comma rest ≡ false
+close_comma [] h = absurd (cc)
+close_comma (t ∷ ts) h = rw (symbol_true mark.Close t h) refl
+
+close_word : (w : Keyword) (rest : List Lexeme) → begins (is_symbol mark.Close) rest ≡ true → begins (is_keyword w) rest ≡ false
+close_word w [] h = absurd (cc)
+close_word w (t ∷ ts) h = rw (symbol_true mark.Close t h) refl
+
 -- what follows isn't a dot
 abbrev pub RefEnds : List Lexeme → Type 0
 RefEnds rest = bound rest < 8
@@ -327,6 +340,11 @@ closed_ref rest h = let b = closed_bound rest h in omega arith
 
 pub refs_exact : IsExact SpellsRefs (list is_comma reference) Closed
 refs_exact = exact_before (list_exact is_comma SpellsRef reference RefEnds reference_exact comma_bound) Closed (λ rest e. (closed_ref rest e, closed_comma rest e))
+
+-- the same before a closing bracket
+pub refs_bracketed : IsExact SpellsRefs (list is_comma reference) (λ rest. begins (is_symbol mark.Close) rest ≡ true)
+refs_bracketed = exact_before (list_exact is_comma SpellsRef reference RefEnds reference_exact comma_bound) (λ rest. begins (is_symbol mark.Close) rest ≡ true)
+    (λ rest e. (close_bound rest e, close_comma rest e))
 
 -- what follows isn't a dot, ASC or DESC
 abbrev KeyEnds : List Lexeme → Type 0
@@ -394,6 +412,11 @@ comma_key o ts h = (comma_bound o ts h, rw (comma_is o h) refl, rw (comma_is o h
 pub keys_exact : IsExact SpellsKeys (list is_comma key) Closed
 keys_exact = exact_before (list_exact is_comma SpellsKey key KeyEnds key_exact comma_key) Closed
     (λ rest e. ((closed_ref rest e, closed_asc rest e, closed_desc rest e), closed_comma rest e))
+
+-- the same before a closing bracket
+pub keys_bracketed : IsExact SpellsKeys (list is_comma key) (λ rest. begins (is_symbol mark.Close) rest ≡ true)
+keys_bracketed = exact_before (list_exact is_comma SpellsKey key KeyEnds key_exact comma_key) (λ rest. begins (is_symbol mark.Close) rest ≡ true)
+    (λ rest e. ((close_bound rest e, close_word word.Asc rest e, close_word word.Desc rest e), close_comma rest e))
 
 equality_sound : (c d : Cursor) (x : RawRef × RawRef) → equality c ≡ up_to x d → Found SpellsEquality x c d
 unfolding equality

@@ -83,6 +83,15 @@ pub eat_false : (p : Lexeme → Bool) (c d : Cursor) → eat p c ≡ Some (false
 unfolding eat
 eat_false p c d h = not_eaten p c (begins p c.rest) d h
 
+not_begun : (p : Lexeme → Bool) (c : Cursor) (b : Bool) → begins p c.rest ≡ b → (d : Cursor) → (if b then up_to true (past c) else up_to false c) ≡ up_to false d → begins p c.rest ≡ false
+not_begun p c true h d e = absurd (let v = (some_same e).value in cc)
+not_begun p c false h d e = h
+
+-- the first didn't pass the test
+pub eat_not : (p : Lexeme → Bool) (c d : Cursor) → eat p c ≡ Some (false, d) → begins p c.rest ≡ false
+unfolding eat
+eat_not p c d h = not_begun p c (begins p c.rest) refl d h
+
 expected : (p : Lexeme → Bool) (c : Cursor) (b : Bool) → begins p c.rest ≡ b → (d : Cursor) (u : Unit {0}) → (if b then up_to tt (past c) else None) ≡ up_to u d → Begins p c d
 expected p c true h d u e = subst (λ x. Begins p c x) (some_same e).place (begun_by p c.rest c.aggs h)
 expected p c false h d u e = absurd (cc)

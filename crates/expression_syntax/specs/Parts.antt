@@ -21,7 +21,8 @@ use Rattle.expression_syntax.specs.declared.keyword.Keyword.{Keyword}
 use Rattle.expression_syntax.specs.declared.keyword.Keyword.TheVariants as word
 use Rattle.expression_syntax.specs.declared.symbol.Symbol.TheVariants as mark
 use Rattle.expression_syntax.specs.declared.level.Place.TheVariants as place
-use Rattle.expression_syntax.specs.Lexemes.{Lexeme, keyword, symbol, name, number, text}
+use Rattle.expression_syntax.specs.declared.weak_keyword.WeakKeyword.{WeakKeyword}
+use Rattle.expression_syntax.specs.Lexemes.{Lexeme, keyword, symbol, name, number, text, is_weak}
 use Rattle.expression_syntax.specs.Expressions.{SpellsExpr, SpellsRef}
 
 -- ---- parts that many productions have
@@ -56,6 +57,10 @@ SpellsName ts c = ts ≡ name c ∷ []
 -- a word, and then something
 abbrev pub SpellsAfter : {A : Type 0} → Keyword → (List Lexeme → A → Type 0) → List Lexeme → A → Type 0
 SpellsAfter w P ts x = (a : List Lexeme) × (ts ≡ keyword w ∷ a) × P a x
+
+-- the same, where the word is a name elsewhere
+abbrev pub SpellsAfterWeak : {A : Type 0} → WeakKeyword → (List Lexeme → A → Type 0) → List Lexeme → A → Type 0
+SpellsAfterWeak w P ts x = (t : Lexeme) × (a : List Lexeme) × (ts ≡ t ∷ a) × (is_weak w t ≡ true) × P a x
 
 -- two words, and then something
 abbrev pub SpellsAfterTwo : {A : Type 0} → Keyword → Keyword → (List Lexeme → A → Type 0) → List Lexeme → A → Type 0

@@ -12,7 +12,8 @@ use Rattle.script_trees.specs.declared.source.Origin.{Origin}
 use Rattle.script_trees.specs.declared.source.Origin.TheVariants.{Named, Stream}
 use Rattle.script_trees.specs.declared.source.Source.{Source}
 use Rattle.expression_syntax.specs.declared.symbol.Symbol.TheVariants as mark
-use Rattle.expression_syntax.specs.Lexemes.{Lexeme, symbol, name, number, text, is_keyword, is_symbol}
+use Rattle.expression_syntax.specs.declared.weak_keyword.WeakKeyword.{WeakKeyword}
+use Rattle.expression_syntax.specs.Lexemes.{Lexeme, symbol, name, number, text, is_keyword, is_symbol, is_weak}
 use Rattle.expression_syntax.specs.Parts.{is_comma, type_word}
 use Rattle.expression_syntax.specs.Reading.{Parser, ◌>>=◌, ◌>>◌, and_then, begins, eat, expect, pure, refuse, take_name, take_one}
 use Rattle.expression_syntax.specs.ReadExpressions as expression
@@ -24,6 +25,13 @@ eat_word w = eat (is_keyword w)
 -- takes a keyword, which has to be next
 abbrev pub expect_word : Keyword → Parser (Unit {0})
 expect_word w = expect (is_keyword w)
+
+-- the same of a word that is a name elsewhere
+abbrev pub eat_weak : WeakKeyword → Parser Bool
+eat_weak w = eat (is_weak w)
+
+abbrev pub expect_weak : WeakKeyword → Parser (Unit {0})
+expect_weak w = expect (is_weak w)
 
 -- ---- lists and optional parts
 
@@ -45,6 +53,12 @@ module _ {A : Type 0} (separates : Lexeme → Bool) (item : Parser A) where
 unfoldable pub optional : {A : Type 0} → Keyword → Parser A → Parser (Option A)
 optional w item = do
   is_there ← eat_word w
+  if is_there then (do x ← item; pure (Some x)) else pure None
+
+-- [w x], where w is a name elsewhere
+unfoldable pub optional_weak : {A : Type 0} → WeakKeyword → Parser A → Parser (Option A)
+optional_weak w item = do
+  is_there ← eat_weak w
   if is_there then (do x ← item; pure (Some x)) else pure None
 
 -- [x], where the next lexeme tells

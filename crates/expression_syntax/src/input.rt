@@ -13,6 +13,7 @@ use crate::parser::{Parser, is_keyword};
 use crate::refusal::Refusal;
 use crate::symbol::Symbol;
 use crate::terminal::Terminal;
+use crate::weak_keyword::{WeakKeyword, is_weak};
 use scope_value::{Cell, ColType, Column};
 use script_trees::{Call, Origin, Source};
 use sqlite_items::Items;
@@ -96,6 +97,32 @@ impl<'a> Parser<'a> {
         ensures { Reads (spec.expect_word keyword self.old) result self.new }
     {
         if self.eat_word(keyword) {
+            Ok(())
+        } else {
+            Err(Refusal::Grammar)
+        }
+    }
+
+    /// Takes the next terminal if it is this word, and says whether it was.
+    #[tactic(auto, unfolding(crate::specs::Reading::eat))]
+    pub fn eat_weak(&mut self, word: WeakKeyword) -> bool
+        ensures { spec.eat_weak word self.old ≡ Some (result, self.new) }
+    {
+        match self.rest {
+            [first, rest @ ..] if is_weak(first, word) => {
+                self.rest = rest;
+                true
+            }
+            _ => false,
+        }
+    }
+
+    /// Takes the next terminal, which has to be this word.
+    #[tactic(auto, unfolding(crate::specs::Reading::eat, crate::specs::Reading::expect))]
+    pub fn expect_weak(&mut self, word: WeakKeyword) -> Result<(), Refusal>
+        ensures { Reads (spec.expect_weak word self.old) result self.new }
+    {
+        if self.eat_weak(word) {
             Ok(())
         } else {
             Err(Refusal::Grammar)

@@ -18,6 +18,7 @@ mod symbol;
 mod tables;
 mod terminal;
 mod terminals;
+mod weak_keyword;
 
 pub use keyword::Keyword;
 pub use level::{Level, Place};
@@ -28,3 +29,4 @@ pub use symbol::Symbol;
 pub use tables::written_law;
 pub use terminal::Terminal;
 pub use terminals::{strings, terminals_of};
+pub use weak_keyword::WeakKeyword;

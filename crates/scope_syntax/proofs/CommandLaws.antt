@@ -13,15 +13,19 @@ use Rattle.script_trees.specs.declared.source.Origin.TheVariants.{Named, Stream}
 use Rattle.script_trees.specs.declared.source.Source.{Source}
 use Rattle.expression_syntax.specs.Lexemes.{Lexeme, keyword, symbol, name, number, text, is_keyword}
 use Rattle.expression_syntax.specs.Parts.{SpellsAfter, SpellsKeys, SpellsName, SpellsOptional, SpellsOrigin, SpellsSource, is_and, is_comma}
-use Rattle.scope_syntax.specs.Statements.{SpellsCommand, SpellsInput, SpellsPresort, SpellsProduct}
+use Rattle.expression_syntax.specs.declared.weak_keyword.WeakKeyword.TheVariants as weak
+use Rattle.scope_syntax.specs.Statements.{SpellsCommand, SpellsDeclared, SpellsInput, SpellsPresort, SpellsProduct}
 use Rattle.expression_syntax.specs.Reading.{Cursor, Parser, begins, expect, pure, take_name, take_one}
 use Rattle.expression_syntax.specs.ReadParts.{begins_source, call, column, equality, is_name, key, list, optional, read_if, reference, source, take_text, text_from, told}
+use Rattle.scope_syntax.specs.ReadStored.{stored}
 use Rattle.scope_syntax.specs.ReadCommands.{combine, input, output, presort, process, produced, reduce}
 use Rattle.expression_syntax.proofs.Closed.{Closed, option_first}
 use Rattle.expression_syntax.proofs.Exact.{Found, Found-same, IsExact, OptionEnds, optional_exact, word_read}
 use Rattle.expression_syntax.proofs.Forward.{at, expect_yes, take_known}
 use Rattle.expression_syntax.proofs.PartLaws.{Any, call_exact, columns_exact, equalities_exact, keys_exact, name_exact, refs_exact, source_exact}
 use Rattle.expression_syntax.proofs.Steps.{Takes, expect_begins, some_same, take_takes, twice, up_to}
+use Rattle.expression_syntax.proofs.Weak.{weak_first, weak_no_keyword}
+use Rattle.scope_syntax.proofs.StoredLaws.{StoredEnds, stored_exact}
 
 -- ---- strings
 
@@ -170,11 +174,11 @@ process_complete ts (Process from op cols) (a, b, q, i, j) rest gs e =
     let words : ts ++ rest ≡ a ++ (b ++ rest) = ap (λ z. z ++ rest) (tail_same q) ∙ append_assoc a b rest in
     let first = from_exact.complete a from i (b ++ rest) gs (product_first _ refl b made j rest, product_first begins_source refl b made j rest) in
     rw (words, first, produced_complete b made j rest gs e) refl
-process_complete ts (Extract cols stream op) h rest gs e = let q = h.2 in absurd (cc)
+process_complete ts (Extract cols stream op st) h rest gs e = let q = h.3 in absurd (cc)
 process_complete ts (Select s) h rest gs e = let q = h.whole in absurd (cc)
 process_complete ts (Reduce from keys on op cols) h rest gs e = let q = h.4 in absurd (cc)
 process_complete ts (Combine l lk s sk on op cols) h rest gs e = let q = h.4 in absurd (cc)
-process_complete ts (Output from stream by) h rest gs e = let q = h.2 in absurd (cc)
+process_complete ts (Output from stream by st) h rest gs e = let q = h.3 in absurd (cc)
 
 pub process_exact : IsExact (Behind word.Process) process Closed
 process_exact = record { sound = process_sound; complete = process_complete }
@@ -230,11 +234,11 @@ reduce_complete ts (Reduce from keys on op cols) h rest gs e =
     let second = presort_exact.complete b keys h.6 on_on gs (refl, refl) in
     let third = refs_exact.complete c on h.7 (d ++ rest) gs (product_first _ refl d made spelled_made rest) in
     rw (words, first, second, expect_yes (is_keyword word.On) (keyword word.On) (c ++ (d ++ rest)) gs refl, third, produced_complete d made spelled_made rest gs e) refl
-reduce_complete ts (Extract cols stream op) h rest gs e = let q = h.2 in absurd (cc)
+reduce_complete ts (Extract cols stream op st) h rest gs e = let q = h.3 in absurd (cc)
 reduce_complete ts (Select s) h rest gs e = let q = h.whole in absurd (cc)
 reduce_complete ts (Process from op cols) h rest gs e = let q = h.2 in absurd (cc)
 reduce_complete ts (Combine l lk s sk on op cols) h rest gs e = let q = h.4 in absurd (cc)
-reduce_complete ts (Output from stream by) h rest gs e = let q = h.2 in absurd (cc)
+reduce_complete ts (Output from stream by st) h rest gs e = let q = h.3 in absurd (cc)
 
 pub reduce_exact : IsExact (Behind word.Reduce) reduce Closed
 reduce_exact = record { sound = reduce_sound; complete = reduce_complete }
@@ -328,27 +332,29 @@ combine_complete ts (Combine l lk s sk on op cols) h rest gs e =
       third,
       produced_complete d made spelled_made rest gs e,
     ) refl
-combine_complete ts (Extract cols stream op) h rest gs e = let q = h.2 in absurd (cc)
+combine_complete ts (Extract cols stream op st) h rest gs e = let q = h.3 in absurd (cc)
 combine_complete ts (Select s) h rest gs e = let q = h.whole in absurd (cc)
 combine_complete ts (Process from op cols) h rest gs e = let q = h.2 in absurd (cc)
 combine_complete ts (Reduce from keys on op cols) h rest gs e = let q = h.4 in absurd (cc)
-combine_complete ts (Output from stream by) h rest gs e = let q = h.2 in absurd (cc)
+combine_complete ts (Output from stream by st) h rest gs e = let q = h.3 in absurd (cc)
 
 pub combine_exact : IsExact (Behind word.Combine) combine Closed
 combine_exact = record { sound = combine_sound; complete = combine_complete }
 
 -- ---- OUTPUT
 
--- what follows an output isn't USING
+-- what may follow an output
 abbrev pub OutputEnds : List Lexeme → Type 0
-OutputEnds rest = begins (is_keyword word.Using) rest ≡ false
+OutputEnds rest = StoredEnds rest × (begins (is_keyword word.Using) rest ≡ false)
 
 by_exact : IsExact (SpellsOptional (SpellsAfter word.Using SpellsName)) (optional word.Using take_name) (OptionEnds word.Using SpellsName take_name Any name_exact)
 by_exact = optional_exact word.Using SpellsName take_name Any name_exact
 
-output_rest : (a b r0 r1 r2 r3 r4 : List Lexeme) (s : List ℕ) → r0 ≡ a ++ r1 → r1 ≡ keyword word.To ∷ r2 → r2 ≡ text s ∷ r3 → r3 ≡ b ++ r4 → r0 ≡ (a ++ keyword word.To ∷ text s ∷ b) ++ r4
-output_rest a b r0 r1 r2 r3 r4 s h i j k =
-    h ∙ ap (λ z. a ++ z) (i ∙ ap (λ z. keyword word.To ∷ z) (j ∙ ap (λ z. text s ∷ z) k)) ∙ sym (append_assoc a (keyword word.To ∷ text s ∷ b) r4)
+output_rest : (a b c r0 r1 r2 r3 r4 r5 : List Lexeme) (s : List ℕ) → r0 ≡ a ++ r1 → r1 ≡ keyword word.To ∷ r2 → r2 ≡ text s ∷ r3 → r3 ≡ b ++ r4 → r4 ≡ c ++ r5
+    → r0 ≡ (a ++ keyword word.To ∷ text s ∷ (b ++ c)) ++ r5
+output_rest a b c r0 r1 r2 r3 r4 r5 s h i j k l =
+    h ∙ ap (λ z. a ++ z) (i ∙ ap (λ z. keyword word.To ∷ z) (j ∙ ap (λ z. text s ∷ z) (k ∙ ap (λ z. b ++ z) l ∙ sym (append_assoc b c r5))))
+    ∙ sym (append_assoc a (keyword word.To ∷ text s ∷ (b ++ c)) r5)
 
 output_sound : (c d : Cursor) (x : Command) → output c ≡ up_to x d → Found (Behind word.Output) x c d
 unfolding output
@@ -361,28 +367,34 @@ output_sound c d x h =
     let i = text_sound u.between v.between v.value v.first in
     let w = twice (optional word.Using take_name v.between) _ x d v.second in
     let g = by_exact.sound v.between w.between w.value w.first in
-    let found : Found (Behind word.Output) (Output t.value v.value w.value) c w.between = record {
-      words = f.words ++ keyword word.To ∷ text v.value ∷ g.words;
-      rest_is = output_rest f.words g.words c.rest t.between.rest u.between.rest v.between.rest w.between.rest v.value f.rest_is k.rest_is
-          (i.rest_is ∙ ap (λ z. z ++ v.between.rest) i.spelled) g.rest_is;
-      aggs_are = g.aggs_are ∙ i.aggs_are ∙ k.aggs_are ∙ f.aggs_are;
-      spelled = (f.words, g.words, refl, f.spelled, g.spelled);
+    let y = twice (stored w.between) _ x d w.second in
+    let m = stored_exact.sound w.between y.between y.value y.first in
+    let found : Found (Behind word.Output) (Output t.value v.value w.value y.value) c y.between = record {
+      words = f.words ++ keyword word.To ∷ text v.value ∷ (g.words ++ m.words);
+      rest_is = output_rest f.words g.words m.words c.rest t.between.rest u.between.rest v.between.rest w.between.rest y.between.rest v.value f.rest_is k.rest_is
+          (i.rest_is ∙ ap (λ z. z ++ v.between.rest) i.spelled) g.rest_is m.rest_is;
+      aggs_are = m.aggs_are ∙ g.aggs_are ∙ i.aggs_are ∙ k.aggs_are ∙ f.aggs_are;
+      spelled = (f.words, g.words, m.words, refl, f.spelled, g.spelled, m.spelled);
     } in
-    Found-same found (some_same w.second)
+    Found-same found (some_same y.second)
 
 output_complete : (ts : List Lexeme) (x : Command) → Behind word.Output ts x → (rest : List Lexeme) (gs : List RawAgg) → OutputEnds rest → output (at (ts ++ rest) gs) ≡ up_to x (at rest gs)
 unfolding output
-output_complete ts (Output from stream by) (a, b, q, i, j) rest gs e =
-    let words : ts ++ rest ≡ a ++ (keyword word.To ∷ text stream ∷ (b ++ rest)) = ap (λ z. z ++ rest) (tail_same q) ∙ append_assoc a (keyword word.To ∷ text stream ∷ b) rest in
-    let first = named_exact.complete a from i (keyword word.To ∷ text stream ∷ (b ++ rest)) gs (tt, refl) in
+output_complete ts (Output from stream by st) (a, b, c, q, i, j, k) rest gs e =
+    let words : ts ++ rest ≡ a ++ (keyword word.To ∷ text stream ∷ (b ++ (c ++ rest))) =
+    ap (λ z. z ++ rest) (tail_same q) ∙ append_assoc a (keyword word.To ∷ text stream ∷ (b ++ c)) rest
+    ∙ ap (λ z. a ++ (keyword word.To ∷ text stream ∷ z)) (append_assoc b c rest) in
+    let first = named_exact.complete a from i (keyword word.To ∷ text stream ∷ (b ++ (c ++ rest))) gs (tt, refl) in
+    let no_using = weak_first (is_keyword word.Using) SpellsDeclared weak.Stored c st (weak_no_keyword weak.Stored word.Using) k rest e.1 in
     rw (
       words,
       first,
-      expect_yes (is_keyword word.To) (keyword word.To) (text stream ∷ (b ++ rest)) gs refl,
-      text_complete (text stream ∷ []) stream refl (b ++ rest) gs tt,
-      by_exact.complete b by j rest gs (tt, e),
+      expect_yes (is_keyword word.To) (keyword word.To) (text stream ∷ (b ++ (c ++ rest))) gs refl,
+      text_complete (text stream ∷ []) stream refl (b ++ (c ++ rest)) gs tt,
+      by_exact.complete b by j (c ++ rest) gs (tt, no_using),
+      stored_exact.complete c st k rest gs e.0,
     ) refl
-output_complete ts (Extract cols stream op) h rest gs e = let q = h.2 in absurd (cc)
+output_complete ts (Extract cols stream op st) h rest gs e = let q = h.3 in absurd (cc)
 output_complete ts (Select s) h rest gs e = let q = h.whole in absurd (cc)
 output_complete ts (Process from op cols) h rest gs e = let q = h.2 in absurd (cc)
 output_complete ts (Reduce from keys on op cols) h rest gs e = let q = h.4 in absurd (cc)

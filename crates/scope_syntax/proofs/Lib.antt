@@ -1,4 +1,5 @@
 pub mod Joins
+pub mod StoredLaws
 pub mod CommandLaws
 pub mod FromLaws
 pub mod SelectLaws

@@ -11,7 +11,7 @@ use Rattle.script_trees.specs.declared.raw_agg.RawAgg.{RawAgg}
 use Rattle.script_trees.specs.declared.select.Joined.{Joined}
 use Rattle.script_trees.specs.declared.select.Select as selects
 use Rattle.expression_syntax.specs.declared.symbol.Symbol.TheVariants as mark
-use Rattle.expression_syntax.specs.Lexemes.{Lexeme, keyword, symbol, is_keyword}
+use Rattle.expression_syntax.specs.Lexemes.{Lexeme, keyword, symbol, is_keyword, is_weak}
 use Rattle.expression_syntax.specs.Parts.{SpellsAfter, SpellsAfterTwo, SpellsItems, SpellsKeys, SpellsOptional, SpellsRefs}
 use Rattle.scope_syntax.specs.Statements.{SpellsCount, SpellsDistinct, SpellsFrom, SpellsPlain, SpellsSelect}
 use Rattle.expression_syntax.specs.Reading.{Cursor, begins}
@@ -138,6 +138,7 @@ module _ (s : selects.Select) (ts : List Lexeme) (t : Parts s.sources s.filter s
     no_from = where_first (is_keyword word.From) refl refl refl refl;
     no_inner = where_first (is_keyword word.Inner) refl refl refl refl;
     no_join = where_first (is_keyword word.Join) refl refl refl refl;
+    no_weak = λ w. where_first (is_weak w) refl refl refl refl;
   }
 
   clauses_complete : clauses s.distinct s.top s.items s.aggs (at from_from []) ≡ up_to s (at [] [])

@@ -15,27 +15,32 @@ use Rattle.expression_syntax.specs.Lexemes.{Lexeme, keyword, symbol, name, numbe
 use Rattle.expression_syntax.specs.Parts as parts
 use Rattle.scope_syntax.specs.Statements as g
 use Rattle.expression_syntax.specs.Parts.{SpellsItem, SpellsItems, SpellsListed, is_comma}
-use Rattle.scope_syntax.specs.Statements.{SpellsCommand, SpellsSelect, SpellsStatement, can_be_named}
+use Rattle.expression_syntax.specs.declared.weak_keyword.WeakKeyword.TheVariants as weak
+use Rattle.scope_syntax.specs.Statements.{SpellsCommand, SpellsDeclared, SpellsSelect, SpellsStatement, can_be_named}
 use Rattle.expression_syntax.specs.Reading.{Cursor, Parser, ◌>>=◌, expect, pure, refuse, take_one}
 use Rattle.expression_syntax.specs.ReadParts.{call, column, list, take_text}
 use Rattle.scope_syntax.specs.ReadSelect.{select}
+use Rattle.scope_syntax.specs.ReadStored.{stored}
 use Rattle.scope_syntax.specs.ReadStatements.{command, command_from, extract, if_nothing_left, named_statement, read_statement, selection, statement, statement_from, whole_of, with_name, without_name}
-use Rattle.expression_syntax.proofs.Closed.{Closed}
+use Rattle.expression_syntax.proofs.Closed.{goes_on}
 use Rattle.scope_syntax.proofs.CommandLaws.{Behind, combine_exact, output_exact, process_exact, reduce_exact, text_exact}
 use Rattle.expression_syntax.proofs.Exact.{Found, Found-same, IsExact, mark_read, word_read}
 use Rattle.expression_syntax.proofs.ExpressionLaws.{aggregates_few}
 use Rattle.expression_syntax.proofs.Forward.{at, expect_yes, take_known}
 use Rattle.expression_syntax.proofs.PartLaws.{call_exact, columns_exact}
 use Rattle.scope_syntax.proofs.SelectLaws.{select_complete, select_sound}
+use Rattle.scope_syntax.proofs.StoredLaws.{StoredEnds, nothing_stored, stored_exact}
 use Rattle.expression_syntax.proofs.Steps.{Same, expect_begins, some_same, take_takes, twice, up_to}
+use Rattle.expression_syntax.proofs.Weak.{weak_closed, weak_first}
 
 -- ---- EXTRACT
 
-extract_rest : (a b r0 r1 r2 r3 r4 r5 : List Lexeme) (s : List ℕ) → r0 ≡ a ++ r1 → r1 ≡ keyword word.From ∷ r2 → r2 ≡ text s ∷ r3 → r3 ≡ keyword word.Using ∷ r4 → r4 ≡ b ++ r5
-    → r0 ≡ (a ++ keyword word.From ∷ text s ∷ keyword word.Using ∷ b) ++ r5
-extract_rest a b r0 r1 r2 r3 r4 r5 s h i j k l =
-    h ∙ ap (λ z. a ++ z) (i ∙ ap (λ z. keyword word.From ∷ z) (j ∙ ap (λ z. text s ∷ z) (k ∙ ap (λ z. keyword word.Using ∷ z) l)))
-    ∙ sym (append_assoc a (keyword word.From ∷ text s ∷ keyword word.Using ∷ b) r5)
+extract_rest : (a b c r0 r1 r2 r3 r4 r5 r6 : List Lexeme) (s : List ℕ) → r0 ≡ a ++ r1 → r1 ≡ keyword word.From ∷ r2 → r2 ≡ text s ∷ r3 → r3 ≡ keyword word.Using ∷ r4 → r4 ≡ b ++ r5 → r5 ≡ c ++ r6
+    → r0 ≡ (a ++ keyword word.From ∷ text s ∷ keyword word.Using ∷ (b ++ c)) ++ r6
+extract_rest a b c r0 r1 r2 r3 r4 r5 r6 s h i j k l m =
+    let op = l ∙ ap (λ z. b ++ z) m ∙ sym (append_assoc b c r6) in
+    h ∙ ap (λ z. a ++ z) (i ∙ ap (λ z. keyword word.From ∷ z) (j ∙ ap (λ z. text s ∷ z) (k ∙ ap (λ z. keyword word.Using ∷ z) op)))
+    ∙ sym (append_assoc a (keyword word.From ∷ text s ∷ keyword word.Using ∷ (b ++ c)) r6)
 
 extract_sound : (c d : Cursor) (x : Command) → extract c ≡ up_to x d → Found (Behind word.Extract) x c d
 unfolding extract
@@ -50,38 +55,43 @@ extract_sound c d x h =
     let l = word_read word.Using (expect_begins (is_keyword word.Using) v.between w.between w.value w.first) in
     let y = twice (call w.between) _ x d w.second in
     let m = call_exact.sound w.between y.between y.value y.first in
-    let found : Found (Behind word.Extract) (Extract t.value v.value y.value) c y.between = record {
-      words = f.words ++ keyword word.From ∷ text v.value ∷ keyword word.Using ∷ m.words;
-      rest_is = extract_rest f.words m.words c.rest t.between.rest u.between.rest v.between.rest w.between.rest y.between.rest v.value f.rest_is k.rest_is
-          (i.rest_is ∙ ap (λ z. z ++ v.between.rest) i.spelled) l.rest_is m.rest_is;
-      aggs_are = m.aggs_are ∙ l.aggs_are ∙ i.aggs_are ∙ k.aggs_are ∙ f.aggs_are;
-      spelled = (f.words, m.words, refl, f.spelled, m.spelled);
+    let s = twice (stored y.between) _ x d y.second in
+    let n = stored_exact.sound y.between s.between s.value s.first in
+    let found : Found (Behind word.Extract) (Extract t.value v.value y.value s.value) c s.between = record {
+      words = f.words ++ keyword word.From ∷ text v.value ∷ keyword word.Using ∷ (m.words ++ n.words);
+      rest_is = extract_rest f.words m.words n.words c.rest t.between.rest u.between.rest v.between.rest w.between.rest y.between.rest s.between.rest v.value f.rest_is k.rest_is
+          (i.rest_is ∙ ap (λ z. z ++ v.between.rest) i.spelled) l.rest_is m.rest_is n.rest_is;
+      aggs_are = n.aggs_are ∙ m.aggs_are ∙ l.aggs_are ∙ i.aggs_are ∙ k.aggs_are ∙ f.aggs_are;
+      spelled = (f.words, m.words, n.words, refl, f.spelled, m.spelled, n.spelled);
     } in
-    Found-same found (some_same y.second)
+    Found-same found (some_same s.second)
 
 behind_word : (w : Keyword) (ts us : List Lexeme) → keyword w ∷ ts ≡ keyword w ∷ us → ts ≡ us
 behind_word w ts us h = cc
 
-extract_complete : (ts : List Lexeme) (x : Command) → Behind word.Extract ts x → (rest : List Lexeme) (gs : List RawAgg) → Closed rest → extract (at (ts ++ rest) gs) ≡ up_to x (at rest gs)
+extract_complete : (ts : List Lexeme) (x : Command) → Behind word.Extract ts x → (rest : List Lexeme) (gs : List RawAgg) → StoredEnds rest → extract (at (ts ++ rest) gs) ≡ up_to x (at rest gs)
 unfolding extract
-extract_complete ts (Extract cols stream op) (a, b, q, i, j) rest gs e =
-    let words : ts ++ rest ≡ a ++ (keyword word.From ∷ text stream ∷ keyword word.Using ∷ (b ++ rest)) =
-    ap (λ z. z ++ rest) (behind_word word.Extract ts _ q) ∙ append_assoc a (keyword word.From ∷ text stream ∷ keyword word.Using ∷ b) rest in
+extract_complete ts (Extract cols stream op st) (a, b, c, q, i, j, k) rest gs e =
+    let words : ts ++ rest ≡ a ++ (keyword word.From ∷ text stream ∷ keyword word.Using ∷ (b ++ (c ++ rest))) =
+    ap (λ z. z ++ rest) (behind_word word.Extract ts _ q) ∙ append_assoc a (keyword word.From ∷ text stream ∷ keyword word.Using ∷ (b ++ c)) rest
+    ∙ ap (λ z. a ++ (keyword word.From ∷ text stream ∷ keyword word.Using ∷ z)) (append_assoc b c rest) in
+    let closed = weak_first goes_on SpellsDeclared weak.Stored c st (weak_closed weak.Stored) k rest e.closed in
     rw (
       words,
-      columns_exact.complete a cols i (keyword word.From ∷ text stream ∷ keyword word.Using ∷ (b ++ rest)) gs refl,
-      expect_yes (is_keyword word.From) (keyword word.From) (text stream ∷ keyword word.Using ∷ (b ++ rest)) gs refl,
-      text_exact.complete (text stream ∷ []) stream refl (keyword word.Using ∷ (b ++ rest)) gs tt,
-      expect_yes (is_keyword word.Using) (keyword word.Using) (b ++ rest) gs refl,
-      call_exact.complete b op j rest gs e,
+      columns_exact.complete a cols i (keyword word.From ∷ text stream ∷ keyword word.Using ∷ (b ++ (c ++ rest))) gs refl,
+      expect_yes (is_keyword word.From) (keyword word.From) (text stream ∷ keyword word.Using ∷ (b ++ (c ++ rest))) gs refl,
+      text_exact.complete (text stream ∷ []) stream refl (keyword word.Using ∷ (b ++ (c ++ rest))) gs tt,
+      expect_yes (is_keyword word.Using) (keyword word.Using) (b ++ (c ++ rest)) gs refl,
+      call_exact.complete b op j (c ++ rest) gs closed,
+      stored_exact.complete c st k rest gs e,
     ) refl
-extract_complete ts (Output from stream by) h rest gs e = let q = h.2 in absurd (cc)
+extract_complete ts (Output from stream by st) h rest gs e = let q = h.3 in absurd (cc)
 extract_complete ts (Select s) h rest gs e = let q = h.whole in absurd (cc)
 extract_complete ts (Process from op cols) h rest gs e = let q = h.2 in absurd (cc)
 extract_complete ts (Reduce from keys on op cols) h rest gs e = let q = h.4 in absurd (cc)
 extract_complete ts (Combine l lk s sk on op cols) h rest gs e = let q = h.4 in absurd (cc)
 
-extract_exact : IsExact (Behind word.Extract) extract Closed
+extract_exact : IsExact (Behind word.Extract) extract StoredEnds
 extract_exact = record { sound = extract_sound; complete = extract_complete }
 
 -- ---- commands
@@ -115,20 +125,20 @@ command_from_sound t ts d x h = absurd (cc)
 
 -- the word that a command begins with
 abbrev word_of : Command → Keyword
-word_of (Extract cols stream op) = word.Extract
+word_of (Extract cols stream op st) = word.Extract
 word_of (Select s) = word.Select
 word_of (Process from op cols) = word.Process
 word_of (Reduce from keys on op cols) = word.Reduce
 word_of (Combine l lk s sk on op cols) = word.Combine
-word_of (Output from stream by) = word.Output
+word_of (Output from stream by st) = word.Output
 
 begins_with_word : (ts : List Lexeme) (x : Command) → SpellsCommand ts x → (us : List Lexeme) × (ts ≡ keyword (word_of x) ∷ us)
-begins_with_word ts (Extract cols stream op) h = (_, h.2)
+begins_with_word ts (Extract cols stream op st) h = (_, h.3)
 begins_with_word ts (Select s) h = (_, h.whole)
 begins_with_word ts (Process from op cols) h = (_, h.2)
 begins_with_word ts (Reduce from keys on op cols) h = (_, h.4)
 begins_with_word ts (Combine l lk s sk on op cols) h = (_, h.4)
-begins_with_word ts (Output from stream by) h = (_, h.2)
+begins_with_word ts (Output from stream by st) h = (_, h.3)
 
 -- the aggregates of a command's items
 abbrev few_aggregates : Command → Type 0
@@ -143,12 +153,12 @@ unfolding selection
 selection_complete ts s h few = rw (select_complete ts s h few) refl
 
 command_from_complete : (ts : List Lexeme) (x : Command) → SpellsCommand (keyword (word_of x) ∷ ts) x → few_aggregates x → command_from (keyword (word_of x)) (at ts []) ≡ up_to x (at [] [])
-command_from_complete ts (Extract cols stream op) h few = to_end _ _ _ extract_exact ts (Extract cols stream op) h refl
+command_from_complete ts (Extract cols stream op st) h few = to_end _ _ _ extract_exact ts (Extract cols stream op st) h nothing_stored
 command_from_complete ts (Select s) h few = selection_complete ts s h few
 command_from_complete ts (Process from op cols) h few = to_end _ _ _ process_exact ts (Process from op cols) h refl
 command_from_complete ts (Reduce from keys on op cols) h few = to_end _ _ _ reduce_exact ts (Reduce from keys on op cols) h refl
 command_from_complete ts (Combine l lk s sk on op cols) h few = to_end _ _ _ combine_exact ts (Combine l lk s sk on op cols) h refl
-command_from_complete ts (Output from stream by) h few = to_end _ _ _ output_exact ts (Output from stream by) h refl
+command_from_complete ts (Output from stream by st) h few = to_end _ _ _ output_exact ts (Output from stream by st) h (nothing_stored, refl)
 
 -- ---- the number of aggregates
 
@@ -176,11 +186,11 @@ select_few ts s h =
 
 command_few : (ts : List Lexeme) (x : Command) → SpellsCommand ts x → length ts ≤ 2 ^ 32 → few_aggregates x
 command_few ts (Select s) h few = let k = select_few ts s h in omega (arith, k)
-command_few ts (Extract cols stream op) h few = tt
+command_few ts (Extract cols stream op st) h few = tt
 command_few ts (Process from op cols) h few = tt
 command_few ts (Reduce from keys on op cols) h few = tt
 command_few ts (Combine l lk s sk on op cols) h few = tt
-command_few ts (Output from stream by) h few = tt
+command_few ts (Output from stream by st) h few = tt
 
 -- ---- statements
 

@@ -3,6 +3,7 @@ pub use Rattle.expression_syntax.specs.Terminals
 pub mod Statements
 pub mod Written
 pub mod ReadSelect
+pub mod ReadStored
 pub mod ReadCommands
 pub mod ReadStatements
 pub mod ReadScripts

@@ -10,6 +10,7 @@ use Rattle.script_trees.specs.declared.source.Source.{Source}
 use Rattle.expression_syntax.specs.Parts.{is_and, is_comma}
 use Rattle.expression_syntax.specs.Reading.{Parser, ◌>>=◌, ◌>>◌, pure, take_name}
 use Rattle.expression_syntax.specs.ReadParts.{begins_source, call, column, equality, expect_word, is_name, key, list, optional, reference, source, take_text, told}
+use Rattle.scope_syntax.specs.ReadStored.{stored}
 
 -- [PRESORT keys]
 abbrev pub presort : Parser (Option (List RawKey))
@@ -62,4 +63,5 @@ output = do
   expect_word word.To
   stream ← take_text
   by ← optional word.Using take_name
-  pure (Output from stream by)
+  declared ← stored
+  pure (Output from stream by declared)

@@ -13,6 +13,7 @@ use Rattle.scope_syntax.specs.Statements.{can_be_named}
 use Rattle.expression_syntax.specs.Reading.{Cursor, Parser, ◌>>=◌, ◌>>◌, expect, pure, refuse, start, take_one}
 use Rattle.expression_syntax.specs.ReadParts.{call, column, expect_word, list, take_text}
 use Rattle.scope_syntax.specs.ReadSelect.{select}
+use Rattle.scope_syntax.specs.ReadStored.{stored}
 use Rattle.scope_syntax.specs.ReadCommands.{combine, output, process, reduce}
 
 unfoldable pub extract : Parser Command
@@ -22,7 +23,8 @@ extract = do
   stream ← take_text
   expect_word word.Using
   op ← call
-  pure (Extract cols stream op)
+  declared ← stored
+  pure (Extract cols stream op declared)
 
 unfoldable pub selection : Parser Command
 selection = do

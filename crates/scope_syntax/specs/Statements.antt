@@ -1,6 +1,6 @@
 -- The grammar of statements: which lexemes spell which command, and which a script. Each definition says by its
 -- comment which production it is.
-use Rattle.std.specs.Prelude.{◌≡◌, ◌+◌, ℕ, pos, Bool, true, false, List, [], ◌∷◌, ◌++◌, length, filter, Option, Some, None, ◌⊎◌}
+use Rattle.std.specs.Prelude.{◌≡◌, ◌+◌, ℕ, pos, Bool, true, false, List, [], ◌∷◌, ◌++◌, length, filter, Option, Some, None, ◌⊎◌, if◌then◌else◌}
 use Rattle.std.specs.List.{slice_split}
 use Rattle.scope_value.specs.declared.schema.Column.{Column}
 use Rattle.script_trees.specs.declared.raw.RawExpr.{RawExpr}
@@ -13,13 +13,17 @@ use Rattle.script_trees.specs.declared.script.Script.{Script}
 use Rattle.script_trees.specs.declared.script.Statement.{Statement}
 use Rattle.script_trees.specs.declared.select.Joined.{Joined}
 use Rattle.script_trees.specs.declared.select.Select as selects
+use Rattle.script_trees.specs.declared.side.JoinSide.{JoinSide}
+use Rattle.script_trees.specs.declared.side.JoinSide.TheVariants as side
 use Rattle.script_trees.specs.declared.source.Source.{Source}
+use Rattle.script_trees.specs.declared.stored.RawStored.{RawStored}
 use Rattle.expression_syntax.specs.declared.keyword.Keyword.TheVariants as word
 use Rattle.expression_syntax.specs.declared.symbol.Symbol.TheVariants as mark
 use Rattle.expression_syntax.specs.declared.level.Place.TheVariants as place
-use Rattle.expression_syntax.specs.Lexemes.{Lexeme, keyword, symbol, name, number, text}
+use Rattle.expression_syntax.specs.declared.weak_keyword.WeakKeyword.TheVariants as weak
+use Rattle.expression_syntax.specs.Lexemes.{Lexeme, keyword, symbol, name, number, text, is_weak}
 use Rattle.expression_syntax.specs.Expressions.{SpellsExpr}
-use Rattle.expression_syntax.specs.Parts.{SpellsAfter, SpellsAfterTwo, SpellsCall, SpellsColumns, SpellsEqualities, SpellsItems, SpellsKeys, SpellsName, SpellsOptional, SpellsRefs, SpellsSource}
+use Rattle.expression_syntax.specs.Parts.{SpellsAfter, SpellsAfterTwo, SpellsAfterWeak, SpellsCall, SpellsColumns, SpellsEqualities, SpellsItems, SpellsKeys, SpellsName, SpellsOptional, SpellsRefs, SpellsSource}
 
 -- ---- SELECT
 
@@ -32,22 +36,49 @@ SpellsDistinct ts false = ts ≡ []
 abbrev pub SpellsCount : List Lexeme → ℕ → Type 0
 SpellsCount ts n = (digits : List ℕ) × (ts ≡ number digits (pos n) ∷ [])
 
+-- source ON eqs
+abbrev pub SpellsTied : List Lexeme → Joined → Type 0
+SpellsTied ts j = (a b : List Lexeme) × (ts ≡ a ++ keyword word.On ∷ b) × SpellsSource a j.source × SpellsEqualities b j.on
+
+-- [INNER]
+abbrev pub SpellsInner : List Lexeme → Type 0
+SpellsInner ts = (ts ≡ []) ⊎ (ts ≡ keyword word.Inner ∷ [])
+
 -- [INNER] JOIN source ON eqs
 abbrev pub SpellsJoin : List Lexeme → Joined → Type 0
-SpellsJoin ts j =
-    (a b c : List Lexeme) × (ts ≡ a ++ keyword word.Join ∷ (b ++ keyword word.On ∷ c))
-    × ((a ≡ []) ⊎ (a ≡ keyword word.Inner ∷ [])) × SpellsSource b j.source × SpellsEqualities c j.on
+SpellsJoin ts j = (a b : List Lexeme) × (ts ≡ a ++ keyword word.Join ∷ b) × (j.side ≡ side.Inner) × SpellsInner a × SpellsTied b j
 
--- {[INNER] JOIN source ON eqs}
-abbrev pub SpellsJoins : List Lexeme → List Joined → Type 0
-SpellsJoins ts [] = ts ≡ []
-SpellsJoins ts (j ∷ more) = (a b : List Lexeme) × (ts ≡ a ++ b) × SpellsJoin a j × SpellsJoins b more
+-- inners = {[INNER] JOIN source ON eqs}
+abbrev pub SpellsInners : List Lexeme → List Joined → Type 0
+SpellsInners ts [] = ts ≡ []
+SpellsInners ts (j ∷ more) = (a b : List Lexeme) × (ts ≡ a ++ b) × SpellsJoin a j × SpellsInners b more
 
--- [FROM source {[INNER] JOIN source ON eqs}]
+-- LEFT | RIGHT | FULL
+abbrev pub side_of : Lexeme → Option JoinSide
+side_of t =
+    if is_weak weak.Left t then Some side.Left
+    else (if is_weak weak.Right t then Some side.Right
+    else (if is_weak weak.Full t then Some side.Full else None))
+
+-- [OUTER]
+abbrev pub SpellsOuterWord : List Lexeme → Type 0
+SpellsOuterWord ts = (ts ≡ []) ⊎ ((t : Lexeme) × (ts ≡ t ∷ []) × (is_weak weak.Outer t ≡ true))
+
+-- outer = (LEFT | RIGHT | FULL) [OUTER] JOIN source ON eqs
+abbrev pub SpellsOuter : List Lexeme → Joined → Type 0
+SpellsOuter ts j =
+    (t : Lexeme) × (a b : List Lexeme) × (ts ≡ t ∷ (a ++ keyword word.Join ∷ b)) × (side_of t ≡ Some j.side) × SpellsOuterWord a × SpellsTied b j
+
+-- inners | outer
+abbrev pub SpellsJoined : List Lexeme → List Joined → Type 0
+SpellsJoined ts js = SpellsInners ts js ⊎ ((j : Joined) × (js ≡ j ∷ []) × SpellsOuter ts j)
+
+-- [FROM source (inners | outer)]; the first source has the side Inner and no equalities
 abbrev pub SpellsFrom : List Lexeme → List Joined → Type 0
 SpellsFrom ts [] = ts ≡ []
 SpellsFrom ts (first ∷ more) =
-    (first.on ≡ []) × ((a b : List Lexeme) × (ts ≡ keyword word.From ∷ (a ++ b)) × SpellsSource a first.source × SpellsJoins b more)
+    (first.side ≡ side.Inner) × (first.on ≡ [])
+    × ((a b : List Lexeme) × (ts ≡ keyword word.From ∷ (a ++ b)) × SpellsSource a first.source × SpellsJoined b more)
 
 -- expr, outside of items
 abbrev pub SpellsPlain : List Lexeme → RawExpr → Type 0
@@ -84,11 +115,25 @@ SpellsProduct ts call cols =
 abbrev pub SpellsPresort : List Lexeme → Option (List RawKey) → Type 0
 SpellsPresort = SpellsOptional (SpellsAfter word.Presort SpellsKeys)
 
--- extract = EXTRACT cols FROM string USING op
-abbrev pub SpellsExtract : List Lexeme → List Column → List ℕ → Call → Type 0
-SpellsExtract ts cols stream call =
-    (a b : List Lexeme) × (ts ≡ keyword word.Extract ∷ (a ++ keyword word.From ∷ text stream ∷ keyword word.Using ∷ b))
-    × SpellsColumns a cols × SpellsCall b call
+-- "(" x ")"
+abbrev pub SpellsBracketed : {A : Type 0} → (List Lexeme → A → Type 0) → List Lexeme → A → Type 0
+SpellsBracketed P ts x = (a : List Lexeme) × (ts ≡ symbol mark.Open ∷ (a ++ symbol mark.Close ∷ [])) × P a x
+
+-- HASH "(" refs ")" [SORTED "(" keys ")"]
+abbrev pub SpellsDeclared : List Lexeme → RawStored → Type 0
+SpellsDeclared ts s =
+    (a b : List Lexeme) × (ts ≡ a ++ b) × SpellsAfterWeak weak.Hash (SpellsBracketed SpellsRefs) a s.hash
+    × SpellsOptional (SpellsAfterWeak weak.Sorted (SpellsBracketed SpellsKeys)) b s.sorted
+
+-- [stored], where stored = STORED HASH "(" refs ")" [SORTED "(" keys ")"]
+abbrev pub SpellsStored : List Lexeme → Option RawStored → Type 0
+SpellsStored = SpellsOptional (SpellsAfterWeak weak.Stored SpellsDeclared)
+
+-- extract = EXTRACT cols FROM string USING op [stored]
+abbrev pub SpellsExtract : List Lexeme → List Column → List ℕ → Call → Option RawStored → Type 0
+SpellsExtract ts cols stream call stored =
+    (a b c : List Lexeme) × (ts ≡ keyword word.Extract ∷ (a ++ keyword word.From ∷ text stream ∷ keyword word.Using ∷ (b ++ c)))
+    × SpellsColumns a cols × SpellsCall b call × SpellsStored c stored
 
 -- process = PROCESS [source] USING op PRODUCE cols
 abbrev pub SpellsProcess : List Lexeme → Option Source → Call → List Column → Type 0
@@ -111,20 +156,20 @@ SpellsCombine ts left left_presort right right_presort on call cols =
     (a b c d : List Lexeme) × (ts ≡ keyword word.Combine ∷ (a ++ keyword word.With ∷ (b ++ keyword word.On ∷ (c ++ d))))
     × SpellsInput a left left_presort × SpellsInput b right right_presort × SpellsEqualities c on × SpellsProduct d call cols
 
--- output = OUTPUT [name] TO string [USING name]
-abbrev pub SpellsOutput : List Lexeme → Option (List ℕ) → List ℕ → Option (List ℕ) → Type 0
-SpellsOutput ts source stream outputter =
-    (a b : List Lexeme) × (ts ≡ keyword word.Output ∷ (a ++ keyword word.To ∷ text stream ∷ b))
-    × SpellsOptional SpellsName a source × SpellsOptional (SpellsAfter word.Using SpellsName) b outputter
+-- output = OUTPUT [name] TO string [USING name] [stored]
+abbrev pub SpellsOutput : List Lexeme → Option (List ℕ) → List ℕ → Option (List ℕ) → Option RawStored → Type 0
+SpellsOutput ts source stream outputter stored =
+    (a b c : List Lexeme) × (ts ≡ keyword word.Output ∷ (a ++ keyword word.To ∷ text stream ∷ (b ++ c)))
+    × SpellsOptional SpellsName a source × SpellsOptional (SpellsAfter word.Using SpellsName) b outputter × SpellsStored c stored
 
 -- command | output
 abbrev pub SpellsCommand : List Lexeme → Command → Type 0
-SpellsCommand ts (Extract cols stream call) = SpellsExtract ts cols stream call
+SpellsCommand ts (Extract cols stream call stored) = SpellsExtract ts cols stream call stored
 SpellsCommand ts (Select s) = SpellsSelect ts s
 SpellsCommand ts (Process source call cols) = SpellsProcess ts source call cols
 SpellsCommand ts (Reduce source presort on call cols) = SpellsReduce ts source presort on call cols
 SpellsCommand ts (Combine left left_presort right right_presort on call cols) = SpellsCombine ts left left_presort right right_presort on call cols
-SpellsCommand ts (Output source stream outputter) = SpellsOutput ts source stream outputter
+SpellsCommand ts (Output source stream outputter stored) = SpellsOutput ts source stream outputter stored
 
 -- ---- statements and scripts
 
@@ -135,7 +180,7 @@ is_end _ = false
 
 -- every command but an output can be named
 abbrev pub can_be_named : Command → Bool
-can_be_named (Output source stream outputter) = false
+can_be_named (Output source stream outputter stored) = false
 can_be_named _ = true
 
 -- statement = [name "="] command | output

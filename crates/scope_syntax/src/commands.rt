@@ -5,6 +5,7 @@ ghost use Rattle.expression_syntax.specs.Reading.{Reads};
 ghost use Rattle.scope_syntax.specs.ReadCommands as spec;
 ghost use Rattle.expression_syntax.specs.ReadParts as parts;
 
+use crate::stored::read_stored;
 use expression_syntax::{Keyword, Parser, Refusal, beside};
 use scope_value::{Cell, Column};
 use script_trees::{Call, Command, RawKey, Source};
@@ -117,18 +118,20 @@ pub(crate) fn read_combine(parser: &mut Parser) -> Result<Command, Refusal>
     })
 }
 
-/// output: a name or none, a stream, and an outputter or none.
+/// output: a name or none, a stream, an outputter or none, and what is declared of the stream.
 #[tactic(auto, unfolding(crate::specs::ReadCommands::output))]
 pub(crate) fn read_output(parser: &mut Parser) -> Result<Command, Refusal>
     ensures { Reads (spec.output parser.old) result parser.new }
 {
     let source = parser.name_if_any()?;
-    parser.expect_word(Keyword::To)?;
-    let stream = parser.text()?;
-    let outputter = read_outputter(parser)?;
+    let (source, ()) = beside(source, parser.expect_word(Keyword::To))?;
+    let outlet = beside(source, parser.text())?;
+    let outlet = beside(outlet, read_outputter(parser))?;
+    let (((source, stream), outputter), stored) = beside(outlet, read_stored(parser))?;
     Ok(Command::Output {
         source,
         stream,
         outputter,
+        stored,
     })
 }

@@ -11,10 +11,11 @@ mod parsing;
 mod pieces;
 mod selecting;
 mod statement;
+mod stored;
 
 pub use fault::SyntaxFault;
 pub use parsing::parse;
 pub use script_trees::{
-    Call, Command, Item, Items, Joined, Origin, RawAgg, RawKey, RefPair, Script, Select, Source,
-    Statement,
+    Call, Command, Item, Items, JoinSide, Joined, Origin, RawAgg, RawKey, RawStored, RefPair,
+    Script, Select, Source, Statement,
 };

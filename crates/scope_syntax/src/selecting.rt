@@ -1,11 +1,12 @@
 // SELECT, clause by clause.
-ghost use Rattle.std.specs.Prelude.{◌≡◌};
+ghost use Rattle.std.specs.Prelude.{◌≡◌, IfOk, Some};
 ghost use Rattle.expression_syntax.specs.Reading.{Reads};
 ghost use Rattle.scope_syntax.specs.ReadSelect as spec;
 
-use expression_syntax::{Keyword, Parser, Place, Refusal, Terminal, beside};
-use script_trees::{Items, Joined, RawAgg, RawExpr, RawKey, RawRef, Select, Source};
+use expression_syntax::{Keyword, Parser, Place, Refusal, Terminal, WeakKeyword, beside};
+use script_trees::{Items, JoinSide, Joined, RawAgg, RawExpr, RawKey, RawRef, Select, Source};
 use sqlite_items::Items as Sequence;
+use std::alloc::{AllocError, Global};
 
 /// The number behind TOP.
 #[tactic(auto, unfolding(crate::specs::ReadSelect::count))]
@@ -44,34 +45,95 @@ fn read_join_word(parser: &mut Parser) -> Result<bool, Refusal>
     }
 }
 
-/// A source and its equalities, behind JOIN.
+/// A source that is joined by a side, and its equalities, behind JOIN.
 #[tactic(auto, unfolding(crate::specs::ReadSelect::joined))]
-fn read_joined(parser: &mut Parser) -> Result<Joined, Refusal>
-    ensures { Reads (spec.joined parser.old) result parser.new }
+fn read_joined(parser: &mut Parser, side: JoinSide) -> Result<Joined, Refusal>
+    ensures { Reads (spec.joined side parser.old) result parser.new }
 {
     let source = parser.source()?;
     let (source, ()) = beside(source, parser.expect_word(Keyword::On))?;
     let (source, on) = beside(source, parser.list())?;
-    Ok(Joined { source, on })
+    Ok(Joined { source, side, on })
 }
 
-/// The sources of FROM, of which the first was read.
-#[tactic(auto, using(crate::proofs::Joins::joins_once, crate::proofs::Joins::joins_none), unfolding(crate::specs::ReadSelect::sources))]
-fn read_sources(parser: &mut Parser, source: Source) -> Result<Sequence<Joined>, Refusal>
-    ensures { Reads (spec.sources source parser.old) result parser.new }
+/// The first source of FROM, alone.
+fn first_source(alloc: Global, source: Source) -> Result<Sequence<Joined>, AllocError>
+    ensures { IfOk result (λ sources. sources ≡ spec.first_source source) }
+{
+    let mut sources = Sequence::new(alloc);
+    let side = JoinSide::Inner;
+    let on = Sequence::new(alloc);
+    sources.push(Joined { source, side, on })?;
+    Ok(sources)
+}
+
+/// inners: further sources, behind the first.
+#[tactic(auto, using(crate::proofs::Joins::joins_once, crate::proofs::Joins::joins_none), unfolding(crate::specs::ReadSelect::inners))]
+fn read_inners(parser: &mut Parser, first: Source) -> Result<Sequence<Joined>, Refusal>
+    ensures { Reads (spec.inners first parser.old) result parser.new }
 {
     let turns = parser.left();
-    let mut sources = Sequence::new(parser.alloc());
-    let on = Sequence::new(parser.alloc());
-    sources.push(Joined { source, on })?;
+    let mut sources = first_source(parser.alloc(), first)?;
     for _ in 0..turns {
         if !read_join_word(parser)? {
             return Ok(sources);
         }
-        let next = read_joined(parser)?;
+        let next = read_joined(parser, JoinSide::Inner)?;
         sources.push(next)?;
     }
     Ok(sources)
+}
+
+/// The side of an outer join, where its word is next, which is taken.
+#[tactic(auto, unfolding(crate::specs::ReadSelect::take_side))]
+fn read_side(parser: &mut Parser) -> Option<JoinSide>
+    ensures { spec.take_side parser.old ≡ Some (result, parser.new) }
+{
+    if parser.eat_weak(WeakKeyword::Left) {
+        Some(JoinSide::Left)
+    } else if parser.eat_weak(WeakKeyword::Right) {
+        Some(JoinSide::Right)
+    } else if parser.eat_weak(WeakKeyword::Full) {
+        Some(JoinSide::Full)
+    } else {
+        None
+    }
+}
+
+/// outer: one further source, behind the word of its side.
+#[tactic(auto, unfolding(crate::specs::ReadSelect::outer))]
+fn read_outer(parser: &mut Parser, side: JoinSide) -> Result<Joined, Refusal>
+    ensures { Reads (spec.outer side parser.old) result parser.new }
+{
+    parser.eat_weak(WeakKeyword::Outer);
+    parser.expect_word(Keyword::Join)?;
+    read_joined(parser, side)
+}
+
+/// The sources of FROM, of which the first was read and a side taken, or none.
+fn read_sources_by(
+    parser: &mut Parser,
+    first: Source,
+    side: Option<JoinSide>,
+) -> Result<Sequence<Joined>, Refusal>
+    ensures { Reads (spec.sources_by first side parser.old) result parser.new }
+{
+    let Some(side) = side else {
+        return read_inners(parser, first);
+    };
+    let sources = first_source(parser.alloc(), first)?;
+    let (mut sources, second) = beside(sources, read_outer(parser, side))?;
+    sources.push(second)?;
+    Ok(sources)
+}
+
+/// The sources of FROM, of which the first was read.
+#[tactic(auto, unfolding(crate::specs::ReadSelect::sources))]
+fn read_sources(parser: &mut Parser, first: Source) -> Result<Sequence<Joined>, Refusal>
+    ensures { Reads (spec.sources first parser.old) result parser.new }
+{
+    let side = read_side(parser);
+    read_sources_by(parser, first, side)
 }
 
 /// FROM and its sources, where they are.

@@ -7,6 +7,7 @@ ghost use Rattle.scope_syntax.specs.Statements as grammar;
 
 use crate::commands::{read_combine, read_output, read_process, read_reduce};
 use crate::selecting::read_select;
+use crate::stored::read_stored;
 use expression_syntax::{Keyword, Parser, Refusal, Symbol, Terminal, beside};
 use scope_value::Cell;
 use script_trees::{Command, Statement};
@@ -28,8 +29,14 @@ fn read_extract(parser: &mut Parser) -> Result<Command, Refusal>
     let (cols, ()) = beside(cols, parser.expect_word(Keyword::From))?;
     let read = beside(cols, parser.text())?;
     let (read, ()) = beside(read, parser.expect_word(Keyword::Using))?;
-    let ((cols, stream), call) = beside(read, parser.op())?;
-    Ok(Command::Extract { cols, stream, call })
+    let read = beside(read, parser.op())?;
+    let (((cols, stream), call), stored) = beside(read, read_stored(parser))?;
+    Ok(Command::Extract {
+        cols,
+        stream,
+        call,
+        stored,
+    })
 }
 
 #[tactic(auto, unfolding(crate::specs::ReadStatements::selection))]

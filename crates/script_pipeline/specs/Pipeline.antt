@@ -67,9 +67,9 @@ extraction_told e = record { name = e.name.now; columns = e.columns.now; stream 
 abbrev pub outlet_told : code_outlet.Outlet → Outlet
 outlet_told o = record { name = o.name.now; stream = o.stream.now }
 
--- a named EXTRACT of columns whose names differ
+-- a named EXTRACT of columns whose names differ, of a stream that isn't declared as stored
 abbrev pub extraction : Option (List ℕ) → Command → Option Extraction
-extraction (Some n) (Extract cols stream call) =
+extraction (Some n) (Extract cols stream call None) =
     if nat_le (length cols) max_columns && are_distinct (λ c. c.name) cols then Some (record { name = n; columns = cols; stream = stream; call = call }) else None
 extraction n command = None
 
@@ -78,9 +78,9 @@ abbrev pub selecting : Option (List ℕ) → Command → Option (List ℕ × sel
 selecting (Some n) (Select s) = Some (n, s)
 selecting n command = None
 
--- an OUTPUT of a name by the default outputter
+-- an OUTPUT of a name by the default outputter, to a stream that isn't declared as stored
 abbrev pub outlet : Option (List ℕ) → Command → Option Outlet
-outlet None (Output (Some n) stream None) = Some (record { name = n; stream = stream })
+outlet None (Output (Some n) stream None None) = Some (record { name = n; stream = stream })
 outlet n command = None
 
 -- ---- the parts of a SELECT

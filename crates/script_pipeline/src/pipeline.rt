@@ -168,7 +168,12 @@ fn extraction_of(statement: &Statement) -> Option<Extraction<'_>>
         return None;
     };
     match &statement.command {
-        Command::Extract { cols, stream, call }
+        Command::Extract {
+            cols,
+            stream,
+            call,
+            stored: None,
+        }
             if cols.len() <= MAX_COLUMNS && have_distinct_names(cols.as_slice()) => {
             Some(Extraction {
                 name,
@@ -203,6 +208,7 @@ fn outlet_of(statement: &Statement) -> Option<Outlet<'_>>
                 source: Some(name),
                 stream,
                 outputter: None,
+                stored: None,
             },
         ) => Some(Outlet { name, stream }),
         _ => None,

@@ -115,6 +115,53 @@ fn first_other(alloc: Global) -> Result<Option<usize>, AllocError> {
             "COMBINE a AS l PRESORT l.k DESC WITH b AS r ON l.x == r.x USING C PRODUCE c",
             "combine a as l presort -l.k with b as r on l.x=r.x C() [c:string ];",
         ),
+        // Streams that are stored by hash, and sorted in each part.
+        (
+            "EXTRACT k, v:int FROM \"in\" USING T STORED HASH(k)",
+            "extract \"in\" T() [k:string v:int ] hash k;",
+        ),
+        (
+            "EXTRACT k FROM \"in\" USING T(1) stored Hash (k, e.v) sorted(v DESC, k ASC, e.w)",
+            "extract \"in\" T(\"1\") [k:string ] hash k e.v sorted -v k e.w;",
+        ),
+        (
+            "OUTPUT x TO \"o\" STORED HASH(a, b)",
+            "output x to \"o\" hash a b;",
+        ),
+        (
+            "OUTPUT TO \"o\" USING W STORED HASH(a) SORTED(a DESC)",
+            "output last to \"o\" using W hash a sorted -a;",
+        ),
+        // Outer joins of two sources.
+        (
+            "SELECT * FROM t LEFT JOIN u ON t.a == u.a",
+            "select * from t left u on t.a=u.a;",
+        ),
+        (
+            "SELECT * FROM t AS x right OUTER JOIN \"s\" USING T AS y ON x.a == y.a AND b == c WHERE d",
+            "select * from t as x right \"s\" T() as y on x.a=y.a b=c where d;",
+        ),
+        (
+            "SELECT * FROM t Full outer JOIN u ON a == b ORDER BY a",
+            "select * from t full u on a=b order a;",
+        ),
+        // Their words are names where the grammar doesn't ask for them.
+        (
+            "left = SELECT stored, hash AS sorted FROM left LEFT JOIN outer AS right ON left.full == right.full",
+            "left = select stored as stored hash as sorted from left left outer as right on left.full=right.full;",
+        ),
+        (
+            "SELECT * FROM t LEFT OUTER JOIN outer ON a == b",
+            "select * from t left outer on a=b;",
+        ),
+        (
+            "OUTPUT stored TO \"o\" USING STORED STORED HASH(hash) SORTED(sorted)",
+            "output stored to \"o\" using STORED hash hash sorted sorted;",
+        ),
+        (
+            "EXTRACT stored FROM \"s\" USING stored Stored Hash(stored)",
+            "extract \"s\" stored() [stored:string ] hash stored;",
+        ),
         // Statements without anything in them leave no trace.
         (
             ";; SELECT a ;; OUTPUT TO \"o\";",

@@ -1,8 +1,8 @@
 // A script's tree as text, with a bracket around each operator, so that a test can say which tree it wants.
 use itoa::Buffer;
 use scope_syntax::{
-    Call, Command, Item, Items, Joined, Origin, RawAgg, RawKey, RefPair, Script, Select, Source,
-    Statement,
+    Call, Command, Item, Items, JoinSide, Joined, Origin, RawAgg, RawKey, RawStored, RefPair,
+    Script, Select, Source, Statement,
 };
 use scope_value::{Cell, ColType, Column, Value};
 use script_trees::{AggKind, PairOp, RawExpr, RawRef};
@@ -216,6 +216,15 @@ fn put_agg(out: &mut Vec<u8>, agg: &RawAgg) -> Put {
 }
 
 fn put_joined(out: &mut Vec<u8>, joined: &Joined) -> Put {
+    put(
+        out,
+        match joined.side {
+            JoinSide::Inner => "",
+            JoinSide::Left => " left",
+            JoinSide::Right => " right",
+            JoinSide::Full => " full",
+        },
+    )?;
     put_source(out, &joined.source)?;
     if joined.on.len() > 0 {
         put_pairs(out, joined.on.as_slice())?;
@@ -288,13 +297,32 @@ fn put_presort(out: &mut Vec<u8>, keys: Option<&[RawKey]>) -> Put {
     }
 }
 
+fn put_stored(out: &mut Vec<u8>, stored: &Option<RawStored>) -> Put {
+    match stored {
+        Some(stored) => {
+            put_refs(out, " hash", stored.hash.as_slice())?;
+            match &stored.sorted {
+                Some(keys) => put_keys(out, " sorted", keys.as_slice()),
+                None => Ok(()),
+            }
+        }
+        None => Ok(()),
+    }
+}
+
 fn put_command(out: &mut Vec<u8>, command: &Command) -> Put {
     match command {
-        Command::Extract { cols, stream, call } => {
+        Command::Extract {
+            cols,
+            stream,
+            call,
+            stored,
+        } => {
             put(out, "extract ")?;
             put_quoted(out, stream)?;
             put_call(out, call)?;
-            put_columns(out, cols.as_slice())
+            put_columns(out, cols.as_slice())?;
+            put_stored(out, stored)
         }
         Command::Select(select) => put_select(out, select),
         Command::Process { source, call, cols } => {
@@ -340,6 +368,7 @@ fn put_command(out: &mut Vec<u8>, command: &Command) -> Put {
             source,
             stream,
             outputter,
+            stored,
         } => {
             put(out, "output ")?;
             match source {
@@ -351,10 +380,11 @@ fn put_command(out: &mut Vec<u8>, command: &Command) -> Put {
             match outputter {
                 Some(name) => {
                     put(out, " using ")?;
-                    put_cell(out, name)
+                    put_cell(out, name)?;
                 }
-                None => Ok(()),
+                None => {}
             }
+            put_stored(out, stored)
         }
     }
 }
