@@ -9,7 +9,7 @@ mod fault;
 mod field;
 mod number;
 mod part;
-mod records;
+pub mod records;
 mod writing;
 
 pub use examples::examples_law;

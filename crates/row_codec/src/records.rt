@@ -1,4 +1,4 @@
-// The records of a text, one after the other: all that this crate asks of the reader of `csv`.
+//! The records of a text, one after the other: all that is asked of the reader of `csv`.
 ghost use Rattle.std.specs.Prelude.{◌≡◌, [], ◌∷◌, IfOk, false, true};
 ghost use Rattle.csv.specs.Records.{fields_of};
 ghost use Rattle.row_codec.specs.Records.{IsBetween, left_of, records_of};

@@ -12,6 +12,8 @@ mod parsed;
 #[cfg(test)]
 mod records;
 #[cfg(test)]
+mod sizes;
+#[cfg(test)]
 mod tokens;
 #[cfg(test)]
 mod trees;
