@@ -9,11 +9,12 @@ use Rattle.col_sets.specs.Columns.{with_has}
 use Rattle.col_sets.specs.Tests.{both, either, and_true, or_left, or_right, same_tests, from_test, to_test}
 use Rattle.fd_closure.specs.Laws.{equal_parts, equal_of_parts}
 use Rattle.fd_closure.specs.Known.{by_of, class_of, equal_of, IsMerged}
-use Rattle.fd_closure.specs.Hold.{at, OneValue, Depends, AreEqual, FactsHold}
+use Rattle.fd_closure.specs.Hold.{at, AreOver, OneValue, Depends, AreEqual, FactsHold}
 use Rattle.fd_closure.specs.declared.facts.Facts.{Facts}
 
-pub plain_holds : (f : Facts) (rows : List (List Value)) → f.constants ≡ [] → f.determined ≡ [] → ((c d : ℕ) → equal_of f c d ≡ (nat_lt c 128 && nat_eq c d)) → FactsHold f rows
-plain_holds f rows p q r = record {
+pub plain_holds : (f : Facts) (rows : List (List Value)) → AreOver f.columns rows → f.constants ≡ [] → f.determined ≡ [] → ((c d : ℕ) → equal_of f c d ≡ (nat_lt c 128 && nat_eq c d)) → FactsHold f rows
+plain_holds f rows over p q r = record {
+  over = over;
   constants = λ c l h. absurd (let k : has [] c ≡ true = ap (λ s. has s c) (sym p) ∙ h in cc);
   determined = λ c l h. absurd (let k : has [] c ≡ true = ap (λ s. has s c) (sym q) ∙ h in cc);
   equal = λ c d h x m. ap (at f.columns x) (from_test c d (both (nat_lt c 128) (nat_eq c d) (sym (r c d) ∙ h)).1);
@@ -22,6 +23,7 @@ plain_holds f rows p q r = record {
 module _ (f : Facts) (rows : List (List Value)) (hold : FactsHold f rows) where
   pub constant_holds : (c : ℕ) → OneValue f.columns rows c → FactsHold (record f { constants = with_column f.constants c }) rows
   constant_holds c one = record {
+    over = hold.over;
     constants = λ d l h. go d l (with_has f.constants c d h);
     determined = hold.determined;
     equal = hold.equal;
@@ -33,6 +35,7 @@ module _ (f : Facts) (rows : List (List Value)) (hold : FactsHold f rows) where
 
   pub dependency_holds : (c : ℕ) (s : List ℕ) → c < length f.by → Depends f.columns rows s c → FactsHold (record f { determined = with_column f.determined c; by = slice_set f.by c s }) rows
   dependency_holds c s n one = record {
+    over = hold.over;
     constants = hold.constants;
     determined = λ d l h. go d l (nat_eq d c) refl (with_has f.determined c d h);
     equal = hold.equal;
@@ -54,6 +57,7 @@ module _ (f : Facts) (rows : List (List Value)) (hold : FactsHold f rows) where
   -- a number that is no column has no dependency
   pub no_dependency_holds : (c : ℕ) → 128 ≤ c → FactsHold (record f { determined = with_column f.determined c }) rows
   no_dependency_holds c n = record {
+    over = hold.over;
     constants = hold.constants;
     determined = λ d l h. go d l (with_has f.determined c d h);
     equal = hold.equal;
@@ -65,6 +69,7 @@ module _ (f : Facts) (rows : List (List Value)) (hold : FactsHold f rows) where
 
   pub merged_holds : (class : List ℕ) (c d : ℕ) → IsMerged f c d (record f { class = class }) → AreEqual f.columns rows c d → FactsHold (record f { class = class }) rows
   merged_holds class c d merged one = record {
+    over = hold.over;
     constants = hold.constants;
     determined = hold.determined;
     equal = λ a b h x m. go a b x m (either _ _ (sym (merged a b) ∙ h));

@@ -1,8 +1,8 @@
 -- When facts hold of rows.
-use Rattle.std.specs.Prelude.{◌≡◌, ℕ, ◌<◌, true, List, Contains, IsPermutation}
+use Rattle.std.specs.Prelude.{◌≡◌, ℕ, ◌<◌, true, List, length, Contains, IsPermutation}
 use Rattle.scope_value.specs.declared.value.Value.{Value}
 use Rattle.scope_value.specs.Keys.{column}
-use Rattle.col_sets.specs.Sets.{has, rank}
+use Rattle.col_sets.specs.Sets.{has, rank, count}
 use Rattle.fd_closure.specs.Known.{by_of, equal_of}
 use Rattle.fd_closure.specs.Closure.{closure_of}
 use Rattle.fd_closure.specs.declared.facts.Facts.{Facts}
@@ -27,8 +27,14 @@ Depends columns rows s c = (x y : List Value) → Contains rows x → Contains r
 abbrev pub AreEqual : List ℕ → List (List Value) → ℕ → ℕ → Type 0
 AreEqual columns rows c d = (x : List Value) → Contains rows x → at columns x c ≡ at columns x d
 
--- the facts hold of the rows: the constants have one value, the dependencies hold, and equal columns are equal
+-- each row has one value for each column
+abbrev pub AreOver : List ℕ → List (List Value) → Type 0
+AreOver columns rows = (x : List Value) → Contains rows x → length x ≡ count columns
+
+-- the facts hold of the rows: these are over the columns, the constants have one value, the dependencies hold, and equal
+-- columns are equal
 pub record FactsHold (f : Facts) (rows : List (List Value)) : Type 0 where
+  pub over : AreOver f.columns rows
   pub constants : (c : ℕ) → c < 128 → has f.constants c ≡ true → OneValue f.columns rows c
   pub determined : (c : ℕ) → c < 128 → has f.determined c ≡ true → Depends f.columns rows (by_of f c) c
   pub equal : (c d : ℕ) → equal_of f c d ≡ true → AreEqual f.columns rows c d

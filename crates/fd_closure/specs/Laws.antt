@@ -316,6 +316,7 @@ module _ (f : Facts) where
 -- facts hold of rows in any order
 pub hold_bag : BagLaw
 hold_bag f xs ys p hold = record {
+  over = λ x mx. hold.over x (back x mx);
   constants = λ c l h x y mx my. hold.constants c l h x y (back x mx) (back y my);
   determined = λ c l h x y mx my. hold.determined c l h x y (back x mx) (back y my);
   equal = λ c d e x mx. hold.equal c d e x (back x mx);

@@ -5,14 +5,14 @@ ghost use Rattle.fd_closure.specs.Least.{IsLeast, IsLeastLaw};
 ghost use Rattle.fd_closure.specs.Hold.{HoldLaw, BagLaw};
 
 use crate::facts::Facts;
-use col_sets::{ColId, ColSet};
+use col_sets::{ColId, ColSet, MAX_COLUMNS};
 
 // The classes of the columns of the set.
 fn classes_of(facts: &Facts, set: ColSet) -> ColSet
     ensures { result ≡ classes_of facts.now set }
 {
     let mut classes = ColSet::empty();
-    for c in 0..128u32 {
+    for c in 0..MAX_COLUMNS as ColId {
         if set.has(c) {
             classes = classes.with(facts.class[c as usize]);
         }
@@ -37,7 +37,7 @@ fn pass(facts: &Facts, set: ColSet) -> ColSet
 {
     let classes = classes_of(facts, set);
     let mut next = ColSet::empty().union(set);
-    for c in 0..128u32 {
+    for c in 0..MAX_COLUMNS as ColId {
         if forced(facts, set, classes, c) {
             next = next.with(c);
         }
@@ -52,7 +52,7 @@ pub fn closure(facts: &Facts, from: ColSet) -> ColSet
     ensures value { result ≡ closure_of facts.now from }
 {
     let mut set = pass(facts, from);
-    for _ in 1..128u32 {
+    for _ in 1..MAX_COLUMNS {
         let next = pass(facts, set);
         if next.within(set) {
             return set;

@@ -2,9 +2,9 @@
 ghost use Rattle.std.specs.Prelude.{◌≡◌, ℕ, ◌<◌, List, [], slice_index, slice_set, nat_lt, nat_eq, ◌&&◌, if◌then◌else◌};
 ghost use Rattle.col_sets.specs.Sets.{with_column};
 
-use col_sets::{ColId, ColSet};
+use col_sets::{ColId, ColSet, MAX_COLUMNS};
 
-/// What is known of the rows of a bag. The fields hold one entry a column below 128.
+/// What is known of the rows of a bag. The fields hold one entry a column below [`MAX_COLUMNS`].
 #[derive(Clone, Copy)]
 pub struct Facts {
     /// The columns of the rows.
@@ -14,29 +14,29 @@ pub struct Facts {
     /// The columns that have a dependency.
     pub determined: ColSet,
     /// Of each column of `determined`, the columns that determine it.
-    pub by: [ColSet; 128],
-    /// Of each column, the number of its class, below 128: columns with one number are equal in each row.
-    pub class: [u32; 128],
+    pub by: [ColSet; MAX_COLUMNS],
+    /// Of each column, the number of its class, below [`MAX_COLUMNS`]: columns with one number are equal in each row.
+    pub class: [u32; MAX_COLUMNS],
 }
 
 // Each column with a class of its own.
-fn own_classes() -> [u32; 128]
+fn own_classes() -> [u32; MAX_COLUMNS]
     ensures { (c : ℕ) → c < 128 → slice_index result c ≡ c }
 {
-    let mut class = [0; 128];
-    for c in 0..128u32 {
+    let mut class = [0; MAX_COLUMNS];
+    for c in 0..MAX_COLUMNS as ColId {
         class[c as usize] = c;
     }
     class
 }
 
 // The classes, the class `from` having become part of the class `to`.
-fn joined_classes(class: [u32; 128], from: u32, to: u32) -> [u32; 128]
+fn joined_classes(class: [u32; MAX_COLUMNS], from: u32, to: u32) -> [u32; MAX_COLUMNS]
     ensures { (c : ℕ) → c < 128
         → slice_index result c ≡ (if nat_eq (slice_index class c) from then to else slice_index class c) }
 {
     let mut joined = class;
-    for c in 0..128 {
+    for c in 0..MAX_COLUMNS {
         if class[c] == from {
             joined[c] = to;
         }
@@ -47,7 +47,7 @@ fn joined_classes(class: [u32; 128], from: u32, to: u32) -> [u32; 128]
 impl Facts {
     ghost use Rattle.scope_value.specs.declared.value.Value.{Value};
     ghost use Rattle.fd_closure.specs.Known.{equal_of, IsMerged};
-    ghost use Rattle.fd_closure.specs.Hold.{OneValue, Depends, AreEqual, FactsHold};
+    ghost use Rattle.fd_closure.specs.Hold.{AreOver, OneValue, Depends, AreEqual, FactsHold};
 
     /// Rows of these columns of which nothing else is known.
     pub fn of_columns(columns: ColSet) -> Facts
@@ -55,13 +55,13 @@ impl Facts {
         ensures constants { result.constants ≡ [] }
         ensures determined { result.determined ≡ [] }
         ensures equal { (c d : ℕ) → equal_of result c d ≡ (nat_lt c 128 && nat_eq c d) }
-        ensures holds { (rows : List (List Value)) → FactsHold result rows }
+        ensures holds { (rows : List (List Value)) → AreOver columns rows → FactsHold result rows }
     {
         Facts {
             columns,
             constants: ColSet::empty(),
             determined: ColSet::empty(),
-            by: [ColSet::empty(); 128],
+            by: [ColSet::empty(); MAX_COLUMNS],
             class: own_classes(),
         }
     }
@@ -89,7 +89,7 @@ impl Facts {
             determined: self.determined.with(c),
             ..self
         };
-        if c < 128 {
+        if (c as usize) < MAX_COLUMNS {
             facts.by[c as usize] = by;
         }
         facts
@@ -102,12 +102,12 @@ impl Facts {
         ensures holds { (rows : List (List Value)) → FactsHold self rows
             → AreEqual self.columns rows c d → FactsHold result rows }
     {
-        if c >= 128 || d >= 128 {
+        if c as usize >= MAX_COLUMNS || d as usize >= MAX_COLUMNS {
             return self;
         }
         let from = self.class[c as usize];
         let to = self.class[d as usize];
-        if from >= 128 || to >= 128 {
+        if from as usize >= MAX_COLUMNS || to as usize >= MAX_COLUMNS {
             return self;
         }
         Facts {

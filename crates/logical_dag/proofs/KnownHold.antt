@@ -506,7 +506,8 @@ module _ (shared : List Facts) where
 
   -- and so do facts that are those of the expression
   pub facts_hold : (results : List (List ℕ)) (t : Expression) (f : Facts) → IsFormed results t → IsLentSet shared t → AreFactsOf shared t f → HoldOf shared t f
-  facts_hold results t f h sets facts ops from A lent stands = record {
+  facts_hold results t f h sets facts ops from A lent stands over = record {
+    over = λ x m. over x (in_list A x m) ∙ ap length (sym facts.columns);
     constants = λ c l k. subst (λ (s : List ℕ). OneValue s A c) (sym facts.columns) (known.constants c ((facts.constants c l).0 k));
     determined = λ c l k. subst (λ (s : List ℕ). Depends s A (by_of f c) c) (sym facts.columns) (known.determined (by_of f c) c (facts.stated c l k));
     equal = λ c d k.

@@ -10,13 +10,13 @@ use Rattle.logical_dag.specs.declared.dag.Dag.{Dag}
 use Rattle.logical_dag.specs.declared.place.Place.{Place}
 use Rattle.logical_trees.specs.declared.logic_op.LogicOp.TheVariants.{Ref}
 use Rattle.logical_trees.specs.Tree.{Expression, leaf, one, two, columns_of}
-use Rattle.logical_trees.specs.Meaning.{Sources, bag_at, StandsFor}
+use Rattle.logical_trees.specs.Meaning.{Sources, bag_at}
 use Rattle.logical_dag.specs.Facts.{AreFactsOf}
 use Rattle.logical_trees.specs.Formed.{IsFormed}
 use Rattle.logical_dag.specs.Laws.{LentHold, lent_columns}
 use Rattle.logical_dag.specs.Known.{IsLentSet}
 use Rattle.logical_dag.specs.Scripts.{shared_trees, IsWritten, IsBindable}
-use Rattle.logical_dag.specs.Places.{AreSharedFacts, AreFactsAt, SharedStand, HoldAt}
+use Rattle.logical_dag.specs.Places.{AreSharedFacts, AreFactsAt, StandsOver, SharedStand, HoldAt}
 use Rattle.logical_trees.specs.ColumnLemmas.{columns_set}
 use Rattle.logical_dag.proofs.KnownHold.{facts_hold}
 use Rattle.logical_dag.proofs.Placed.{some_and, if_some, got_first, shared_columns, place_formed}
@@ -82,6 +82,9 @@ module _ (dag : Dag) (bound : IsBindable dag) (shared : List Facts) (known : Are
       subst (λ (s : List ℕ). IsColumnSet s) (sym t.2.columns) (columns_set (lent_columns (take i shared)) t.0 (shared_formed i t.0 t.1))
 
   module _ (ops : Operators) (from : Sources) (stand : SharedStand dag ops from) where
+    stand_at : (i : ℕ) (t : Expression) → slice_get (shared_trees dag) i ≡ Some t → StandsOver ops from t (bag_at from.shared i)
+    stand_at i t h = if_some (slice_get (shared_trees dag) i) (λ u. StandsOver ops from u (bag_at from.shared i)) t h (stand i)
+
     -- those of the first results hold
     first_hold : (n i : ℕ) (f : Facts) → i < n → slice_get shared i ≡ Some f → FactsHold f (bag_at from.shared i)
     first_hold zero i f l h = absurd (omega arith)
@@ -90,7 +93,7 @@ module _ (dag : Dag) (bound : IsBindable dag) (shared : List Facts) (known : Are
         let sets = lent_sets (take i shared) (λ j. to_if (slice_get (take i shared) j) (λ g. IsColumnSet g.columns) (λ g k. shared_sets j g (got_first i shared j g k).1)) t.0 in
         facts_hold (take i shared) (lent_columns (take i shared)) t.0 f (shared_formed i t.0 t.1) sets t.2 ops from (bag_at from.shared i)
         (λ j. to_if (slice_get (take i shared) j) (λ g. FactsHold g (bag_at from.shared j)) (λ g k. let m = got_first i shared j g k in let less : j < i = m.0 in first_hold n j g (omega arith) m.1))
-        (if_some (slice_get (shared_trees dag) i) (λ u. StandsFor ops from u (bag_at from.shared i)) t.0 t.1 (stand i))
+        (stand_at i t.0 t.1).0 (stand_at i t.0 t.1).1
 
     -- all of them hold
     pub shared_hold : LentHold shared from
@@ -103,4 +106,4 @@ hold_at dag place f bound at ops from t A stand is stands =
     let known = at.1 in
     facts_hold shared (shared_columns dag) t f (place_formed dag bound place t is)
     (lent_sets shared (λ i. to_if (slice_get shared i) (λ g. IsColumnSet g.columns) (λ g h. shared_sets dag bound shared known i g h)) t)
-    (at.2 t is) ops from A (shared_hold dag bound shared known ops from stand) stands
+    (at.2 t is) ops from A (shared_hold dag bound shared known ops from stand) stands.0 stands.1

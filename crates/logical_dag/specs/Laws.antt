@@ -4,9 +4,10 @@ use Rattle.col_sets.specs.Sets.{IsColumnSet}
 use Rattle.fd_closure.specs.declared.facts.Facts.{Facts}
 use Rattle.fd_closure.specs.Hold.{FactsHold}
 use Rattle.user_ops.specs.Told.{Operators}
-use Rattle.logical_trees.specs.Tree.{Expression}
+use Rattle.logical_trees.specs.Tree.{Expression, columns_of}
 use Rattle.logical_trees.specs.Rows.{Bag}
 use Rattle.logical_trees.specs.Meaning.{Sources, bag_at, StandsFor}
+use Rattle.logical_trees.specs.RowsOver.{AreRowsOver}
 use Rattle.logical_dag.specs.Facts.{AreFactsOf}
 use Rattle.logical_trees.specs.Formed.{IsFormed}
 
@@ -18,9 +19,9 @@ LentHold shared from = (i : ℕ) → IfSome (slice_get shared i) (λ f. FactsHol
 abbrev pub lent_columns : List Facts → List (List ℕ)
 lent_columns shared = map (λ f. f.columns) shared
 
--- the facts hold of each bag that stands for the expression, where those that are lent hold
+-- the facts hold of each bag of rows over the expression's columns that stands for it, where those that are lent hold
 abbrev pub HoldOf : List Facts → Expression → Facts → Type 0
-HoldOf shared t f = (ops : Operators) (from : Sources) (A : Bag) → LentHold shared from → StandsFor ops from t A → FactsHold f A
+HoldOf shared t f = (ops : Operators) (from : Sources) (A : Bag) → LentHold shared from → StandsFor ops from t A → AreRowsOver (columns_of t) A → FactsHold f A
 
 -- the facts of an expression hold
 abbrev pub DoFactsHold : Type 0

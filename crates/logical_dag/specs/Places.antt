@@ -8,10 +8,11 @@ use Rattle.logical_dag.specs.declared.place.Place.{Place}
 use Rattle.logical_dag.specs.declared.place.PlacePart.{PlacePart}
 use Rattle.logical_dag.specs.declared.place.PlacePart.TheVariants.{Whole, Leaves, Lower}
 use Rattle.logical_trees.specs.declared.logic_op.LogicOp.TheVariants.{Join, Group, Top, Partial, LocalTop}
-use Rattle.logical_trees.specs.Tree.{Expression, one, two, nodes}
+use Rattle.logical_trees.specs.Tree.{Expression, one, two, nodes, columns_of}
 use Rattle.logical_trees.specs.Blocks.{block_leaves, block_pairs, chosen, IsJoinOf}
 use Rattle.logical_trees.specs.Rows.{Bag}
 use Rattle.logical_trees.specs.Meaning.{Sources, bag_at, StandsFor}
+use Rattle.logical_trees.specs.RowsOver.{AreRowsOver}
 use Rattle.logical_dag.specs.Facts.{AreFactsOf}
 use Rattle.logical_dag.specs.Scripts.{shared_trees, all_trees}
 
@@ -36,10 +37,14 @@ pub record AreSharedFacts (dag : Dag) (shared : List Facts) : Type 0 where
 abbrev pub AreFactsAt : Dag → Place → Facts → Type 0
 AreFactsAt dag place f = (shared : List Facts) × AreSharedFacts dag shared × ((t : Expression) → IsAt dag place t → AreFactsOf shared t f)
 
--- the bags of the shared results stand for their trees
-abbrev pub SharedStand : Dag → Operators → Sources → Type 0
-SharedStand dag ops from = (i : ℕ) → IfSome (slice_get (shared_trees dag) i) (λ t. StandsFor ops from t (bag_at from.shared i))
+-- the bag stands for the expression, and its rows are over the columns of this
+abbrev pub StandsOver : Operators → Sources → Expression → Bag → Type 0
+StandsOver ops from t A = StandsFor ops from t A × AreRowsOver (columns_of t) A
 
--- the facts hold of each bag that stands for an expression at the place
+-- the bags of the shared results stand for their trees, whose columns their rows are over
+abbrev pub SharedStand : Dag → Operators → Sources → Type 0
+SharedStand dag ops from = (i : ℕ) → IfSome (slice_get (shared_trees dag) i) (λ t. StandsOver ops from t (bag_at from.shared i))
+
+-- the facts hold of each such bag of an expression at the place
 abbrev pub HoldAt : Dag → Place → Facts → Type 0
-HoldAt dag place f = (ops : Operators) (from : Sources) (t : Expression) (A : Bag) → SharedStand dag ops from → IsAt dag place t → StandsFor ops from t A → FactsHold f A
+HoldAt dag place f = (ops : Operators) (from : Sources) (t : Expression) (A : Bag) → SharedStand dag ops from → IsAt dag place t → StandsOver ops from t A → FactsHold f A

@@ -6,7 +6,7 @@ ghost use Rattle.logical_dag.specs.Facts.{IsRenamedSet};
 ghost use Rattle.logical_dag.specs.Known.{name_of, IsNaming, IsOwn, AreConstants, CarriedConstants, AreDependencies, CarriedDependencies, AddedDependency, AreClasses, CarriedEqualities, IsFirstAlike, IsAlikeBelow, IsEquated, AreCarried, IsDependency, AreApart};
 
 use crate::naming::Names;
-use col_sets::{ColId, ColSet};
+use col_sets::{ColId, ColSet, MAX_COLUMNS};
 use fd_closure::Facts;
 
 // With the column under its name a constant, if it is one.
@@ -30,7 +30,7 @@ fn with_constants(from: &Facts, names: &Names, into: Facts) -> Facts
     ensures constants { AreConstants result (CarriedConstants from.now (name_of names.now) into) }
 {
     let mut all = into;
-    for b in 0..128u32 {
+    for b in 0..MAX_COLUMNS as ColId {
         all = with_constant_of(from, names, b, all);
     }
     all
@@ -47,7 +47,7 @@ fn renamed_set(names: &Names, set: ColSet) -> Option<ColSet>
     if set.count() == 0 {
         return Some(renamed);
     }
-    for c in 0..128u32 {
+    for c in 0..MAX_COLUMNS as ColId {
         if set.has(c) {
             match names.of[c as usize] {
                 Some(d) => renamed = renamed.with(d),
@@ -86,7 +86,7 @@ fn with_dependencies(from: &Facts, names: &Names, into: Facts) -> Facts
     ensures dependencies { AreDependencies result (CarriedDependencies from.now (name_of names.now) into) }
 {
     let mut all = into;
-    for b in 0..128u32 {
+    for b in 0..MAX_COLUMNS as ColId {
         all = with_dependency_of(from, names, b, all);
     }
     all
@@ -113,7 +113,7 @@ pub fn with_same_dependencies(from: &Facts, into: Facts) -> Facts
     ensures dependencies { AreDependencies result (λ s c. IsDependency into s c ⊎ IsDependency from.now s c) }
 {
     let mut all = into;
-    for b in 0..128u32 {
+    for b in 0..MAX_COLUMNS as ColId {
         all = with_same_dependency(from, b, all);
     }
     all
@@ -123,9 +123,9 @@ pub fn with_same_dependencies(from: &Facts, into: Facts) -> Facts
 fn are_equal(facts: &Facts, c: ColId, d: ColId) -> bool
     ensures { result ≡ equal_of facts.now c d }
 {
-    c < 128
-        && d < 128
-        && facts.class[c as usize] < 128
+    (c as usize) < MAX_COLUMNS
+        && (d as usize) < MAX_COLUMNS
+        && (facts.class[c as usize] as usize) < MAX_COLUMNS
         && facts.class[c as usize] == facts.class[d as usize]
 }
 
@@ -168,7 +168,7 @@ pub fn with_equalities(from: &Facts, names: &Names, into: Facts) -> Facts
     ensures classes { AreClasses result (CarriedEqualities from.now (name_of names.now) into) }
 {
     let mut all = into;
-    for b in 0..128u32 {
+    for b in 0..MAX_COLUMNS as ColId {
         all = with_equal_of(from, names, b, all);
     }
     all

@@ -3,13 +3,13 @@ ghost use Rattle.std.specs.Prelude.{◌≡◌, ℕ, ◌<◌, Option, slice_get, 
 ghost use Rattle.logical_dag.specs.Facts.{is_column, ref_name, item_name, key_name};
 ghost use Rattle.logical_dag.specs.Known.{name_of};
 
-use col_sets::{ColId, ColSet};
+use col_sets::{ColId, ColSet, MAX_COLUMNS};
 use scope_expr::Expr;
 
-/// Of each column below 128 its name, where it has one.
+/// Of each column its name, where it has one.
 #[derive(Clone, Copy)]
 pub struct Names {
-    pub of: [Option<ColId>; 128],
+    pub of: [Option<ColId>; MAX_COLUMNS],
 }
 
 /// The column at a place of a set, counted from 0.
@@ -19,7 +19,7 @@ pub fn column_at(cols: ColSet, place: usize) -> Option<ColId>
     if place >= cols.count() as usize {
         return None;
     }
-    for c in 0..128u32 {
+    for c in 0..MAX_COLUMNS as ColId {
         if cols.has(c) && cols.rank(c) as usize == place {
             return Some(c);
         }
@@ -69,8 +69,8 @@ fn item_name(items: &[Expr], cols: ColSet, c: ColId) -> Option<ColId>
 pub fn ref_names(shared: ColSet, cols: ColSet) -> Names
     ensures { (c : ℕ) → c < 128 → name_of result c ≡ ref_name shared cols c }
 {
-    let mut of = [None; 128];
-    for c in 0..128u32 {
+    let mut of = [None; MAX_COLUMNS];
+    for c in 0..MAX_COLUMNS as ColId {
         of[c as usize] = ref_name(shared, cols, c);
     }
     Names { of }
@@ -80,8 +80,8 @@ pub fn ref_names(shared: ColSet, cols: ColSet) -> Names
 pub fn item_names(items: &[Expr], cols: ColSet) -> Names
     ensures { (c : ℕ) → c < 128 → name_of result c ≡ item_name items.now cols c }
 {
-    let mut of = [None; 128];
-    for c in 0..128u32 {
+    let mut of = [None; MAX_COLUMNS];
+    for c in 0..MAX_COLUMNS as ColId {
         of[c as usize] = item_name(items, cols, c);
     }
     Names { of }
@@ -91,8 +91,8 @@ pub fn item_names(items: &[Expr], cols: ColSet) -> Names
 pub fn key_names(keys: ColSet) -> Names
     ensures { (c : ℕ) → c < 128 → name_of result c ≡ key_name keys c }
 {
-    let mut of = [None; 128];
-    for c in 0..128u32 {
+    let mut of = [None; MAX_COLUMNS];
+    for c in 0..MAX_COLUMNS as ColId {
         of[c as usize] = if keys.has(c) { Some(c) } else { None };
     }
     Names { of }
