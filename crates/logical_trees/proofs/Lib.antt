@@ -1,2 +1,3 @@
 pub mod AggColumnLemmas
+pub mod BlockReading
 pub mod NodeNumbers

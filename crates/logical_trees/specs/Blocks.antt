@@ -1,9 +1,12 @@
 -- Join blocks: their leaves and pairs, and the joins of some of the leaves.
-use Rattle.std.specs.Prelude.{◌≡◌, ◌↔◌, ◌⊎◌, ◌<◌, ◌/◌, ◌%◌, ℕ, nat_eq, true, if◌then◌else◌, List, [], ◌∷◌, ◌++◌, length, Contains, IsPermutation}
+use Rattle.std.specs.Prelude.{◌≡◌, ◌↔◌, ◌⊎◌, ◌<◌, ◌+◌, ◌-◌, ◌/◌, ◌%◌, ℕ, nat_eq, true, if◌then◌else◌, List, [], ◌∷◌, ◌++◌, map, length, slice_get, Some, Result, MatchResult, Contains, IsPermutation}
+use Rattle.std.specs.Borrow.{Bor}
 use Rattle.col_sets.specs.Sets.{has, union}
 use Rattle.logical_trees.specs.declared.logic_op.LogicOp.{LogicOp}
 use Rattle.logical_trees.specs.declared.logic_op.LogicOp.TheVariants.{Join}
-use Rattle.logical_trees.specs.Tree.{Expression, one, two, columns_of}
+use Rattle.logical_trees.specs.declared.blocks.Equality.{Equality}
+use Rattle.logical_trees.specs.declared.logical.Logical.{Logical}
+use Rattle.logical_trees.specs.Tree.{Expression, one, two, tree_of, nodes, columns_of}
 use Rattle.logical_trees.specs.Formed.{IsFormed}
 
 -- the leaves of the join block at the top, from the left
@@ -15,6 +18,19 @@ block_leaves t = t ∷ []
 abbrev pub block_pairs : Expression → List (ℕ × ℕ)
 block_pairs (two (Join on) t u) = block_pairs t ++ (block_pairs u ++ on.items)
 block_pairs t = []
+
+-- the leaf of that number among these, or by how much the number is past the last one's
+abbrev pub IsLeafAt : List Expression → ℕ → Result (Bor Logical) ℕ → Type 0
+IsLeafAt leaves number found = MatchResult found (λ leaf. slice_get leaves number ≡ Some (tree_of leaf.now)) (λ past. number ≡ length leaves + past)
+
+-- a pair that the Join of that number sets equal
+abbrev pub equality : ℕ → ℕ × ℕ → Equality
+equality number p = record { node = number; left = p.0; right = p.1 }
+
+-- the pairs of the block, each with the number of its Join, where the expression has this number
+abbrev pub block_equalities : Expression → ℕ → List Equality
+block_equalities (two (Join on) t u) n = block_equalities t (n - length (nodes u) - 1) ++ (block_equalities u (n - 1) ++ map (equality n) on.items)
+block_equalities t n = []
 
 -- those whose bit is set, bit i being of the i-th
 abbrev pub chosen : {X : Type 0} → ℕ → List X → List X

@@ -25,4 +25,5 @@ pub mod SameLemmas
 pub mod ShapeLemmas
 pub mod SplitLemmas
 pub mod Tree
+pub mod Types
 pub mod Worked

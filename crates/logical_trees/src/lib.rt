@@ -7,6 +7,7 @@
 
 mod agg;
 mod args;
+mod blocks;
 mod columns;
 mod laws;
 mod logic_op;
@@ -15,6 +16,7 @@ mod nodes;
 
 pub use agg::Agg;
 pub use args::{CallArgs, GroupArgs, TopArgs};
+pub use blocks::{Equality, block_equalities, block_leaf};
 pub use columns::{columns_of, group_columns};
 pub use laws::{bag_law, block_law, number_law, replacement_law, rows_law, split_law};
 pub use logic_op::LogicOp;

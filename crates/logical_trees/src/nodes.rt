@@ -5,8 +5,8 @@ ghost use Rattle.logical_trees.specs.Numbers.{child_numbers};
 
 use crate::logical::Logical;
 
-// The number of the first node of an expression whose last one stands before this number.
-fn first_number(tree: &Logical, end: u32) -> u32
+/// The number of the first node of an expression whose last one stands before this number.
+pub(crate) fn first_number(tree: &Logical, end: u32) -> u32
     requires { length (nodes (tree_of tree.now)) ≤ end }
     ensures { end ≡ length (nodes (tree_of tree.now)) + result }
 {
