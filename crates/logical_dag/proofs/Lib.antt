@@ -1,5 +1,6 @@
 pub mod Added
 pub mod AggregateFacts
+pub mod Bounded
 pub mod Carrying
 pub mod Classes
 pub mod Conjuncts
@@ -19,6 +20,7 @@ pub mod KnownTables
 pub mod LeafFacts
 pub mod Links
 pub mod LiteralFacts
+pub mod Narrow
 pub mod OneBelow
 pub mod PairFacts
 pub mod PairsBelow

@@ -40,9 +40,13 @@ TreesGive ops scans shared orders outputs rows =
 abbrev pub orders_of : Dag → List (Option (List (ℕ × Dir)))
 orders_of dag = map (λ o. o.order) dag.outputs
 
+-- the rows of a scan, whatever is declared of how its stream is stored
+abbrev pub scan_rows : (ScanDecl → Bag) → ScanDecl → Bag
+scan_rows input scan = input (record scan { stored = None })
+
 -- a Dag gives its outputs these rows, where its scans have those
 abbrev pub DagGives : Operators → (ScanDecl → Bag) → Dag → List Bag → Type 0
-DagGives ops input dag rows = TreesGive ops (map input dag.scans) (shared_trees dag) (orders_of dag) (output_trees dag) rows
+DagGives ops input dag rows = TreesGive ops (map (scan_rows input) dag.scans) (shared_trees dag) (orders_of dag) (output_trees dag) rows
 
 -- the rows of an output with an order are one list, those of another one bag
 abbrev pub AreSameRows : Option (List (ℕ × Dir)) → Bag → Bag → Type 0

@@ -17,7 +17,7 @@ use Rattle.logical_trees.specs.GroupLemmas.{in_order_permuted}
 use Rattle.logical_trees.specs.MeaningLemmas.{some_bag}
 use Rattle.logical_trees.specs.OneBagLemmas.{one_bag}
 use Rattle.logical_dag.specs.Scripts.{IsWritten}
-use Rattle.logical_dag.specs.DagMeaning.{in_order_opt, AllStand, Writes, drawn, AreSameRows, AreSameOutputs, AreWritten, HaveSameBags, GiveSome, GiveOne, GiveSame, DagGivesSome, DagGivesOne}
+use Rattle.logical_dag.specs.DagMeaning.{in_order_opt, AllStand, Writes, drawn, scan_rows, AreSameRows, AreSameOutputs, HaveSameBags, GiveSome, GiveOne, GiveSame, DagGivesSome, DagGivesOne}
 
 not_there : {X : Type 0} (xs : List X) (k : ℕ) → k < length xs → slice_get xs k ≡ None → ⊥
 not_there [] k l h = omega arith
@@ -225,8 +225,8 @@ gives_same ops scans shared others orders outputs more rows s q h =
 
 pub dag_gives_some : DagGivesSome
 dag_gives_some ops input dag b =
-    gives_some ops (map input dag.scans) _ _ _ (record { earlier = b.shared; all = b.outputs })
+    gives_some ops (map (scan_rows input) dag.scans) _ _ _ (record { earlier = b.shared; all = b.outputs })
     (length-map dag.outputs (λ o. o.order) ∙ sym (length-map dag.outputs (λ o. tree_of o.tree)))
 
 pub dag_gives_one : DagGivesOne
-dag_gives_one ops input dag rows others b h k = gives_one ops (map input dag.scans) _ _ _ rows others (record { earlier = b.shared; all = b.outputs }) h k
+dag_gives_one ops input dag rows others b h k = gives_one ops (map (scan_rows input) dag.scans) _ _ _ rows others (record { earlier = b.shared; all = b.outputs }) h k

@@ -8,5 +8,7 @@ pub mod Gathered
 pub mod Known
 pub mod KnownNodes
 pub mod Laws
+pub mod Measured
 pub mod Places
 pub mod Scripts
+pub mod Typed

@@ -1,8 +1,11 @@
 -- Which Dags are of a script.
-use Rattle.std.specs.Prelude.{◌≡◌, ℕ, Bool, true, false, not, List, [], ◌∷◌, ◌++◌, map, flat_map, take, length, slice_get, IfSome, IsSomeAnd, All}
+use Rattle.std.specs.Prelude.{◌≡◌, ℕ, Bool, true, false, not, List, [], ◌∷◌, ◌++◌, map, flat_map, take, length, slice_get, Option, None, IfSome, IsSomeAnd, All}
 use Rattle.std.specs.List.{range_with_len, list_all}
-use Rattle.col_sets.specs.Sets.{count}
+use Rattle.col_sets.specs.Sets.{count, within}
 use Rattle.logical_dag.specs.declared.dag.Dag.{Dag}
+use Rattle.logical_dag.specs.declared.dag.Output.{Output}
+use Rattle.logical_dag.specs.declared.dag.ScanDecl.{ScanDecl}
+use Rattle.logical_dag.specs.declared.dag.Stored.{Stored}
 use Rattle.logical_trees.specs.declared.logic_op.LogicOp.{LogicOp}
 use Rattle.logical_trees.specs.declared.logic_op.LogicOp.TheVariants.{Scan, Partial, Finish, LocalTop, LastTop}
 use Rattle.logical_trees.specs.Tree.{Expression, leaf, one, two, tree_of, nodes, columns_of, IsNumbered}
@@ -51,11 +54,23 @@ pub record IsWritten (results : List (List ℕ)) (t : Expression) : Type 0 where
   pub formed : IsFormed results t
   pub numbered : IsNumbered t
 
+-- what rows are declared to be stored by, where they are, is among the columns
+abbrev pub IsStoredOver : List ℕ → Option Stored → Type 0
+IsStoredOver cols stored = IfSome stored (λ s. (within s.hash cols ≡ true) × IsOrderOver cols (order_of s.sorted))
+
+-- the columns of a scan are as many as those of its schema, and what it is stored by is among them
+abbrev pub IsScanOver : List ℕ → ScanDecl → Type 0
+IsScanOver cols scan = (length scan.schema ≡ count cols) × IsStoredOver cols scan.stored
+
+-- what an output is ordered by, or stored by, is among its columns; a stored one has no order
+abbrev pub IsOutputOver : List ℕ → Output → Type 0
+IsOutputOver cols o = IsOrderOver cols (order_of o.order) × IsStoredOver cols o.stored × IfSome o.stored (λ s. o.order ≡ None)
+
 -- a Dag that binding can give: each shared tree refers to earlier ones alone, the scans are numbered through the trees in
--- post-order, each scan has the columns of its schema, and an output's order is by its columns
+-- post-order, and each scan and each output is over the columns of its node
 pub record IsBindable (dag : Dag) : Type 0 where
   pub shared : (i : ℕ) → IfSome (slice_get (shared_trees dag) i) (IsWritten (take i (map columns_of (shared_trees dag))))
   pub outputs : All (IsWritten (map columns_of (shared_trees dag))) (output_trees dag)
   pub scans : map (λ s. s.0) (flat_map scans_of (all_trees dag)) ≡ range_with_len 0 (length dag.scans)
-  pub schemas : All (λ s. IsSomeAnd (slice_get dag.scans s.0) (λ scan. length scan.schema ≡ count s.1)) (flat_map scans_of (all_trees dag))
-  pub orders : All (λ o. IsOrderOver (columns_of (tree_of o.tree)) (order_of o.order)) dag.outputs
+  pub declared : All (λ s. IsSomeAnd (slice_get dag.scans s.0) (IsScanOver s.1)) (flat_map scans_of (all_trees dag))
+  pub over : All (λ o. IsOutputOver (columns_of (tree_of o.tree)) o) dag.outputs

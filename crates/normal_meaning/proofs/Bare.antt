@@ -15,10 +15,13 @@ use Rattle.logical_trees.specs.declared.args.TopArgs.{TopArgs}
 use Rattle.logical_trees.specs.declared.logic_op.LogicOp.TheVariants.{Filter, Project, Join, Group, Process, Reduce, Combine, Top, Partial, Finish, LocalTop, LastTop}
 use Rattle.logical_trees.specs.Tree.{Expression, leaf, one, two, nodes, fresh_columns, numbered_columns, columns_of}
 use Rattle.logical_trees.specs.Formed.{IsWhole, IsPartialOf, IsLocalTopOf, IsOrderOver}
-use Rattle.logical_dag.specs.Scripts.{top_of, is_step, scan_of, scans_of, IsWritten}
+use Rattle.logical_dag.specs.declared.dag.Stored.{Stored}
+use Rattle.logical_dag.specs.Scripts.{top_of, is_step, scan_of, scans_of, IsWritten, IsStoredOver}
 use Rattle.col_sets.specs.declared.dir.Dir.{Dir}
 use Rattle.logical_trees.specs.Rows.{order_of}
-use Rattle.script_meaning.specs.Written.{AreOrdersOver, AreBindable}
+use Rattle.script_meaning.specs.Dag.{ScriptDag}
+use Rattle.script_meaning.specs.Written.{AreScansOver, AreOutputsOver, IsBindable}
+use Rattle.normal_meaning.specs.Dags.{normal_dag}
 use Rattle.logical_dag.specs.Bounds.{weight, node_count, filter_depth, block_width, is_narrow, AreBounded}
 use Rattle.normal_meaning.specs.Sinking.{conjuncts, passes, below, goes_to, can_sink, sink, sink_all, normal}
 use Rattle.normal_meaning.specs.Normal.{is_filter, IsNormal, bare}
@@ -322,24 +325,32 @@ each_written results ts h k d l =
     let within : k < length ts = omega (arith, l, e) in
     subst (IsWritten results) (sym (get_or-map normal ts k d d within)) (written_normal results (slice_index_or ts k d) (h k d within))
 
-ordered_normal : (orders : List (Option (List (ℕ × Dir)))) (ts : List Expression) → AreOrdersOver orders ts → AreOrdersOver orders (map normal ts)
-ordered_normal [] [] h = tt
-ordered_normal (o ∷ orders) (t ∷ ts) h = (subst (λ (cols : List ℕ). IsOrderOver cols (order_of o)) (sym (columns_normal t)) h.0, ordered_normal orders ts h.1)
-ordered_normal [] (t ∷ ts) h = absurd h
-ordered_normal (o ∷ orders) [] h = absurd h
+over_normal : (orders : List (Option (List (ℕ × Dir)))) (stored : List (Option Stored)) (ts : List Expression) → AreOutputsOver orders stored ts → AreOutputsOver orders stored (map normal ts)
+over_normal [] [] [] h = tt
+over_normal (o ∷ orders) (s ∷ stored) (t ∷ ts) h = (
+  (
+    subst (λ (cols : List ℕ). IsOrderOver cols (order_of o)) (sym (columns_normal t)) h.0.0,
+    subst (λ (cols : List ℕ). IsStoredOver cols s) (sym (columns_normal t)) h.0.1,
+    h.0.2,
+  ),
+  over_normal orders stored ts h.1,
+)
+over_normal [] [] (t ∷ ts) h = absurd h
+over_normal [] (s ∷ stored) ts h = absurd h
+over_normal (o ∷ orders) [] ts h = absurd h
+over_normal (o ∷ orders) (s ∷ stored) [] h = absurd h
 
-pub bindable_normal : (widths : List ℕ) (shared : List Expression) (orders : List (Option (List (ℕ × Dir)))) (outputs : List Expression) → AreBindable widths shared orders outputs
-    → AreBindable widths (map normal shared) orders (map normal outputs)
-bindable_normal widths shared orders outputs b = record {
-  earlier = λ i. go i (slice_get shared i) refl;
-  all = subst (λ (results : List (List ℕ)). All (IsWritten results) (map normal outputs)) (sym (columns_all shared)) (each_written (map columns_of shared) outputs b.all);
-  numbered = ap (map (λ (s : ℕ × List ℕ). s.0)) (scans_of_all shared outputs) ∙ b.numbered;
-  wide = ap (map (λ (s : ℕ × List ℕ). length s.1)) (scans_of_all shared outputs) ∙ b.wide;
-  ordered = ordered_normal orders outputs b.ordered;
+pub bindable_normal : (d : ScriptDag) → IsBindable d → IsBindable (normal_dag d)
+bindable_normal d b = record {
+  earlier = λ i. go i (slice_get d.shared i) refl;
+  all = subst (λ (results : List (List ℕ)). All (IsWritten results) (map normal d.outputs)) (sym (columns_all d.shared)) (each_written (map columns_of d.shared) d.outputs b.all);
+  numbered = ap (map (λ (s : ℕ × List ℕ). s.0)) (scans_of_all d.shared d.outputs) ∙ b.numbered;
+  declared = subst (AreScansOver d.scans) (sym (scans_of_all d.shared d.outputs)) b.declared;
+  over = over_normal d.orders d.stored d.outputs b.over;
 }
   where
-    go : (i : ℕ) (o : Option Expression) → slice_get shared i ≡ o → IfSome (slice_get (map normal shared) i) (IsWritten (take i (map columns_of (map normal shared))))
-    go i None e = rw (slice_get-map normal shared i, e) tt
+    go : (i : ℕ) (o : Option Expression) → slice_get d.shared i ≡ o → IfSome (slice_get (map normal d.shared) i) (IsWritten (take i (map columns_of (map normal d.shared))))
+    go i None e = rw (slice_get-map normal d.shared i, e) tt
     go i (Some t) e =
-        let h : IsWritten (take i (map columns_of shared)) t = subst (λ (o : Option Expression). IfSome o (IsWritten (take i (map columns_of shared)))) e (b.earlier i) in
-        rw (slice_get-map normal shared i, e, columns_all shared) (written_normal (take i (map columns_of shared)) t h)
+        let h : IsWritten (take i (map columns_of d.shared)) t = subst (λ (o : Option Expression). IfSome o (IsWritten (take i (map columns_of d.shared)))) e (b.earlier i) in
+        rw (slice_get-map normal d.shared i, e, columns_all d.shared) (written_normal (take i (map columns_of d.shared)) t h)

@@ -4,7 +4,7 @@ use Rattle.user_ops.specs.Told.{Operators}
 use Rattle.logical_trees.specs.Tree.{Expression, columns_of}
 use Rattle.logical_trees.specs.Rows.{Bag}
 use Rattle.script_meaning.specs.Dag.{dag_of}
-use Rattle.logical_dag.specs.DagMeaning.{HaveSameBags}
+use Rattle.logical_dag.specs.DagMeaning.{HaveSameBags, scan_rows}
 use Rattle.logical_dag.specs.DagMeaningLemmas.{gives_same}
 use Rattle.logical_dag.proofs.Placed.{formed_more}
 use Rattle.logical_trees.specs.SameLemmas.{same_turned}
@@ -34,8 +34,8 @@ module _ (results : List (List ℕ)) where
 
 pub keeps_given : KeepsGiven
 keeps_given ops input d rows results f g = (
-  gives_same ops (map input d.scans) d.shared (map normal d.shared) d.orders d.outputs (map normal d.outputs) rows (normal_there results d.shared f) (normal_there results d.outputs g),
-  gives_same ops (map input d.scans) (map normal d.shared) d.shared d.orders (map normal d.outputs) d.outputs rows (normal_back results d.shared f) (normal_back results d.outputs g),
+  gives_same ops (map (scan_rows input) d.scans) d.shared (map normal d.shared) d.orders d.outputs (map normal d.outputs) rows (normal_there results d.shared f) (normal_there results d.outputs g),
+  gives_same ops (map (scan_rows input) d.scans) (map normal d.shared) d.shared d.orders (map normal d.outputs) d.outputs rows (normal_back results d.shared f) (normal_back results d.outputs g),
 )
 
 -- ---- the Dag of a script
@@ -68,4 +68,4 @@ pub normal_alone : NormalGivesAlone
 normal_alone ops input script rows fits placed told h = gives_meaning_alone ops input script rows fits placed told ((script_kept ops input script rows fits placed).1 h)
 
 pub normal_bindable : NormalIsBindable
-normal_bindable script fits placed = bindable_normal _ (dag_of script).shared (dag_of script).orders (dag_of script).outputs (gives_bindable script fits placed)
+normal_bindable script fits placed = bindable_normal (dag_of script) (gives_bindable script fits placed)

@@ -1,14 +1,15 @@
 -- What the normal form keeps, and that it is one.
-use Rattle.std.specs.Prelude.{◌≡◌, ℕ, List, ◌++◌, map, flat_map, Option}
-use Rattle.col_sets.specs.declared.dir.Dir.{Dir}
+use Rattle.std.specs.Prelude.{◌≡◌, ℕ, List, ◌++◌, map, flat_map}
 use Rattle.logical_trees.specs.Tree.{Expression, columns_of}
 use Rattle.logical_trees.specs.Meaning.{SameBags}
 use Rattle.logical_trees.specs.Formed.{IsFormed}
 use Rattle.logical_dag.specs.Scripts.{IsWritten, scans_of}
 use Rattle.logical_dag.specs.Bounds.{AreBounded}
-use Rattle.script_meaning.specs.Written.{AreBindable}
+use Rattle.script_meaning.specs.Dag.{ScriptDag}
+use Rattle.script_meaning.specs.Written.{IsBindable}
 use Rattle.normal_meaning.specs.Sinking.{normal}
 use Rattle.normal_meaning.specs.Normal.{IsNormal, bare}
+use Rattle.normal_meaning.specs.Dags.{normal_dag}
 
 -- the same bags stand for an expression and its normal form, and their rows have the same columns
 abbrev pub KeepsBags : Type 0
@@ -34,10 +35,9 @@ KeepsWritten = (results : List (List ℕ)) (t : Expression) → IsWritten result
 abbrev pub KeepsBounds : Type 0
 KeepsBounds = (scans : ℕ) (shared outputs : List Expression) → AreBounded scans shared outputs → AreBounded scans (map normal shared) (map normal outputs)
 
--- the normal forms of trees that binding can give are such trees
+-- the normal form of a Dag that binding can give is such a Dag
 abbrev pub KeepsBindable : Type 0
-KeepsBindable = (widths : List ℕ) (shared : List Expression) (orders : List (Option (List (ℕ × Dir)))) (outputs : List Expression) → AreBindable widths shared orders outputs
-    → AreBindable widths (map normal shared) orders (map normal outputs)
+KeepsBindable = (d : ScriptDag) → IsBindable d → IsBindable (normal_dag d)
 
 -- and they have the same scans, with the same columns
 abbrev pub KeepsScans : Type 0

@@ -1,6 +1,6 @@
 -- The trees of a part are as binding promises, wherever the part stands.
 use Rattle.std.proofs.Common.{◌≡◌, ℕ, zero, suc, ◌+◌, ◌<◌, ◌≤◌, Bool, true, false, not, List, [], ◌∷◌, ◌++◌, map, length, refl, sym, ap, ap₂, ◌∙◌, append-nil, subst, arith, Option, Some, None, slice_get}
-use Rattle.std.specs.Prelude.{option_map, IsSomeAnd}
+use Rattle.std.specs.Prelude.{option_map, IsSomeAnd, IfSome}
 use Rattle.std.specs.List.{range_with_len, list_all}
 use Rattle.std.proofs.lemmas.List.{length-map, length-append, map-append}
 use Rattle.std.proofs.lemmas.List.Folds.{list_all-append}
@@ -12,6 +12,7 @@ use Rattle.col_sets.specs.Tests.{and_true, or_left, to_test}
 use Rattle.script_trees.specs.declared.agg.AggKind.{AggKind}
 use Rattle.scope_expr.specs.declared.expr.Expr.{Expr}
 use Rattle.logical_dag.specs.declared.dag.ScanDecl.{ScanDecl}
+use Rattle.logical_dag.specs.declared.dag.Stored.{Stored}
 use Rattle.logical_trees.specs.declared.logic_op.LogicOp.{LogicOp}
 use Rattle.logical_trees.specs.declared.logic_op.LogicOp.TheVariants.{Filter, Project, Group, Process, Reduce, Top}
 use Rattle.logical_trees.specs.Tree.{Expression, one, two, nodes, columns_of, fresh_columns, numbered_columns}
@@ -21,9 +22,9 @@ use Rattle.scope_expr.specs.Moved.{moved}
 use Rattle.column_ranks.specs.Rising.{IsRising}
 use Rattle.column_ranks.specs.RisingLemmas.{rising_range}
 use Rattle.script_meaning.specs.Script.{Call, Grouping, Query}
-use Rattle.script_meaning.specs.Meaning.{places, key_places, order_list}
-use Rattle.script_meaning.specs.Part.{Part, cols_at, number, scanned, referred, over, join_on, joined_part, call_at, order_at, process_part, reduce_part, combine_on, combine_part, filter_part, filter_opt, numbered, group_part, listed, grouping_opt, project_part, unique_opt, first_opt, query_part}
-use Rattle.script_meaning.specs.Placed.{IsBelow, IsBelowOpt, AreBelow, AreArgsBelow, IsGroupingBelow, ArePlaces, IsOrderBelow, IsPresortBelow, IsOn, IsQueryPlaced}
+use Rattle.script_meaning.specs.Meaning.{places, key_places, order_list, unless_stored}
+use Rattle.script_meaning.specs.Part.{Part, cols_at, number, scanned, referred, over, join_on, joined_part, call_at, order_at, process_part, reduce_part, combine_on, combine_part, filter_part, filter_opt, numbered, group_part, listed, grouping_opt, project_part, unique_opt, first_opt, query_part, stored_part}
+use Rattle.script_meaning.specs.Placed.{IsBelow, IsBelowOpt, AreBelow, AreArgsBelow, IsGroupingBelow, ArePlaces, IsOrderBelow, IsPresortBelow, IsStoredBelow, IsOn, IsQueryPlaced}
 use Rattle.script_meaning.proofs.Grouped.{ids_numbered}
 use Rattle.script_meaning.proofs.Shaped.{has_left, has_right, IsShaped, filter_opt_shaped, project_shaped, first_shaped, keys_rising, group_shaped, keys_ascend, query_shaped, process_shaped, reduce_shaped, scanned_shaped, referred_shaped, beside, left_rises, right_rises, joined_shaped, combine_shaped}
 use Rattle.script_meaning.proofs.Named.{has_number, rising_places, over_moved, all_over, args_over, within_moved, order_moved, presort_over, sides_moved, group_formed, range_set, call_formed, join_formed}
@@ -50,10 +51,25 @@ scans_two op t u h =
 abbrev pub AreKnown : (ℕ → ℕ) → List (List ℕ) → (ℕ → ℕ) → List ℕ → Type 0
 AreKnown width_of results name refs = (k : ℕ) → has refs k ≡ true → IsSomeAnd (slice_get results (name k)) (λ result. count result ≡ width_of k)
 
+-- what the scans are declared to be stored by are places among their columns
+abbrev pub AreDeclared : List ScanDecl → Type 0
+AreDeclared [] = Unit {0}
+AreDeclared (d ∷ scans) = IsStoredBelow (length d.schema) d.stored × AreDeclared scans
+
+pub declared_append : (ds es : List ScanDecl) → AreDeclared ds → AreDeclared es → AreDeclared (ds ++ es)
+declared_append [] es h k = k
+declared_append (d ∷ ds) es h k = (h.0, declared_append ds es h.1 k)
+
+-- what a part is stored by are places, and it has no order then
+abbrev pub IsStoredPart : Part → Type 0
+IsStoredPart a = IsStoredBelow (length a.cols) a.stored × IfSome a.stored (λ s. a.order ≡ None)
+
 module _ (width_of : ℕ → ℕ) where
   pub record IsBuilt (a : Part) : Type 0 where
     pub shape : IsShaped a
     pub order : IsPresortBelow (length a.cols) a.order
+    pub stored : IsStoredPart a
+    pub declared : AreDeclared a.scans
     pub whole : (name : ℕ → ℕ) (s c : ℕ) → IsWhole (a.tree name s c)
     pub plain : (name : ℕ → ℕ) (s c : ℕ) → list_all (λ u. not (is_step (top_of u))) (nodes (a.tree name s c)) ≡ true
     pub numbers : (name : ℕ → ℕ) (s c : ℕ) → numbered_columns (a.tree name s c) ≡ range_with_len c a.count
@@ -70,6 +86,8 @@ module _ (width_of : ℕ → ℕ) where
   over_built a b cols count op shape more whole step scan fresh formed = record {
     shape = shape;
     order = tt;
+    stored = (tt, tt);
+    declared = b.declared;
     whole = λ name s c. whole c (a.tree name s c) (b.whole name s c);
     plain = λ name s c.
         list_all-append (λ u. not (is_step (top_of u))) (nodes (a.tree name s c)) (one (op c) (a.tree name s c) ∷ [])
@@ -97,6 +115,8 @@ module _ (width_of : ℕ → ℕ) where
   filter_opt_built None a b h = record {
     shape = filter_opt_shaped None a b.shape;
     order = tt;
+    stored = (tt, tt);
+    declared = b.declared;
     whole = b.whole;
     plain = b.plain;
     numbers = b.numbers;
@@ -147,6 +167,8 @@ module _ (width_of : ℕ → ℕ) where
       record {
         shape = query_shaped q a b.shape;
         order = go q.top q.order (unique_opt q.distinct (filter_opt q.having (project_part q.items (grouping_opt q.group (filter_opt q.test a))))) h.orders;
+        stored = (tt, tt);
+        declared = all.declared;
         whole = all.whole;
         plain = all.plain;
         numbers = all.numbers;
@@ -179,10 +201,35 @@ module _ (width_of : ℕ → ℕ) where
 
   -- ---- leaves
 
-  pub scanned_built : (d : ScanDecl) → IsBuilt (scanned d)
-  scanned_built d = record {
+  -- an OUTPUT's part
+  pub stored_built : (stored : Option Stored) (a : Part) → IsBuilt a → IsStoredBelow (length a.cols) stored → IsBuilt (stored_part stored a)
+  stored_built stored a b h = record {
+    shape = record { rising = b.shape.rising; columns = b.shape.columns };
+    order = ordered stored;
+    stored = (h, unordered stored);
+    declared = b.declared;
+    whole = b.whole;
+    plain = b.plain;
+    numbers = b.numbers;
+    scans = b.scans;
+    widths = b.widths;
+    formed = b.formed;
+  }
+    where
+      ordered : (o : Option Stored) → IsPresortBelow (length a.cols) (unless_stored o a.order)
+      ordered None = b.order
+      ordered (Some s) = tt
+
+      unordered : (o : Option Stored) → IfSome o (λ s. unless_stored o a.order ≡ None)
+      unordered None = tt
+      unordered (Some s) = refl
+
+  pub scanned_built : (d : ScanDecl) → IsStoredBelow (length d.schema) d.stored → IsBuilt (scanned d)
+  scanned_built d h = record {
     shape = scanned_shaped d;
     order = tt;
+    stored = (tt, tt);
+    declared = (h, tt);
     whole = λ name s c. tt;
     plain = λ name s c. refl;
     numbers = λ name s c. refl;
@@ -195,6 +242,8 @@ module _ (width_of : ℕ → ℕ) where
   referred_built k b built wide = record {
     shape = referred_shaped k b;
     order = subst (λ (n : ℕ). IsPresortBelow n b.order) (sym (length-range_with_len 0 (length b.cols))) built.order;
+    stored = (tt, tt);
+    declared = tt;
     whole = λ name s c. tt;
     plain = λ name s c. refl;
     numbers = λ name s c. refl;
@@ -216,6 +265,8 @@ module _ (width_of : ℕ → ℕ) where
   beside_built a b x y cols count op shape more whole step scan fresh formed = record {
     shape = shape;
     order = tt;
+    stored = (tt, tt);
+    declared = declared_append a.scans b.scans x.declared y.declared;
     whole = λ name s c. whole c (a.tree name s c) (b.tree name (s + length a.scans) (c + a.count)) (x.whole name s c) (y.whole name (s + length a.scans) (c + a.count));
     plain = λ name s c.
         list_all-append (λ u. not (is_step (top_of u))) (nodes (a.tree name s c))

@@ -12,7 +12,7 @@ use Rattle.script_meaning.specs.Part.{Part}
 use Rattle.script_meaning.specs.Bound.{is_shared, stands, found, placed, source_part, from_part, beside_part, bound, bound_from}
 use Rattle.script_meaning.specs.Dag.{or_nothing, part_at}
 use Rattle.script_meaning.specs.Laws.{table_at, IsBesideTold, IsCommandTold, AreOuterTold}
-use Rattle.script_meaning.proofs.Tied.{Tied, nothing_tied, scanned_tied, referred_tied, joined_tied, process_tied, reduce_tied, combine_tied, outer_tied, query_tied}
+use Rattle.script_meaning.proofs.Tied.{Tied, nothing_tied, scanned_tied, referred_tied, joined_tied, process_tied, reduce_tied, combine_tied, outer_tied, query_tied, stored_tied}
 
 pub get_below : {A : Type 0} (xs : List A) (x : A) (k : ℕ) → k < length xs → slice_get (xs ++ x ∷ []) k ≡ slice_get xs k
 get_below [] x k h = absurd (omega arith)
@@ -97,7 +97,7 @@ module _ (ops : Operators) (input : ScanDecl → Bag) (rows_of : ℕ → Bag) wh
   bound_tied all earlier env done t known (reduce source on presort call) told = reduce_tied ops input rows_of on presort call _ _ (source_tied all earlier env done t known source)
   bound_tied all earlier env done t known (combine source before other after on call) told =
       combine_tied ops input rows_of on before after call _ _ _ _ (source_tied all earlier env done t known source) (source_tied all earlier env done t known other)
-  bound_tied all earlier env done t known (output source stream) told = placed_tied all env done t known (input_at earlier source)
+  bound_tied all earlier env done t known (output source stream stored) told = stored_tied ops input rows_of stored _ _ (placed_tied all env done t known (input_at earlier source))
 
   push_tied : (env : List Part) (done : List Table) (b : Part) (A : Table) → AllTied env done → Tied ops input rows_of b A → AllTied (env ++ b ∷ []) (done ++ A ∷ [])
   push_tied env done b A t h = record {

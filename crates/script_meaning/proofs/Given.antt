@@ -1,6 +1,6 @@
 -- The Dag of a script gives what the script means.
 use Rattle.std.proofs.Common.{◌≡◌, ℕ, zero, suc, ◌+◌, ◌≤◌, Bool, true, false, cond, ◌||◌, List, [], ◌∷◌, ◌++◌, map, length, refl, sym, ap, ◌∙◌, arith, Option, Some, None, slice_get, ◌==◌, nat_lt}
-use Rattle.std.specs.Prelude.{option_map}
+use Rattle.std.specs.Prelude.{option_map, flat_map}
 use Rattle.std.proofs.lemmas.Bool.Decides.{nat_tests}
 use Rattle.col_sets.specs.declared.dir.Dir.{Dir}
 use Rattle.col_sets.specs.Sets.{has}
@@ -18,8 +18,10 @@ use Rattle.script_meaning.specs.Meaning.{places, Table}
 use Rattle.script_meaning.specs.Part.{Part, number, cols_at}
 use Rattle.script_meaning.specs.Bound.{mentions, parts_of}
 use Rattle.script_meaning.specs.Dag.{part_at, outs_of, reached, kept_of, place_in, scans_of_all, trees_from, column_order, dag_of}
-use Rattle.logical_dag.specs.DagMeaning.{in_order_opt, AllStand, Writes, drawn}
+use Rattle.logical_dag.specs.DagMeaning.{in_order_opt, AllStand, Writes, drawn, scan_rows}
+use Rattle.logical_dag.specs.Scripts.{scans_of}
 use Rattle.script_meaning.specs.Laws.{table_at, written_at, results_of, GivesMeaning}
+use Rattle.script_meaning.proofs.Declared.{rows_declared}
 use Rattle.script_meaning.proofs.Shaped.{get_left, get_right}
 use Rattle.script_meaning.proofs.Tied.{Reads, Tied, ranks}
 use Rattle.script_meaning.proofs.Env.{AllTied, all_tied, start_tied}
@@ -91,8 +93,8 @@ module _ (ops : Operators) (input : ScanDecl → Bag) (rows_of : ℕ → Bag) (n
 pub gives_meaning : GivesMeaning
 gives_meaning ops input script fits told = (
   map rows_of kept,
-  all_stand ops input rows_of (place_in kept) env done from tied fits 0 kept (record { scans = λ i d e. ap (bag_at from.scans) (zeroed i) ∙ in_scans i d (get_left _ _ i d e); refs = kept_refs }),
-  all_written ops input rows_of (place_in kept) env done from tied fits (length (scans_of_all env kept)) outs
+  all_stand ops (scan_rows input) rows_of (place_in kept) env done from tied fits 0 kept (record { scans = λ i d e. ap (bag_at from.scans) (zeroed i) ∙ in_scans i d (get_left _ _ i d e); refs = kept_refs }),
+  all_written ops (scan_rows input) rows_of (place_in kept) env done from tied fits (length (scans_of_all env kept)) outs
       (record { scans = λ i d e. in_scans (length (scans_of_all env kept) + i) d (get_right (scans_of_all env kept) (scans_of_all env outs) i ∙ e); refs = out_refs }),
 )
   where
@@ -112,16 +114,18 @@ gives_meaning ops input script fits told = (
     rows_of k = (table_at done k).rows
 
     from : Sources
-    from = drawn (map input (dag_of script).scans) (map rows_of kept)
+    from = drawn (map (scan_rows input) (dag_of script).scans) (map rows_of kept)
 
-    tied : AllTied ops input rows_of env done
-    tied = all_tied ops input rows_of (mentions [] script) [] [] [] script (start_tied ops input rows_of) (λ k l. refl) told
+    tied : AllTied ops (scan_rows input) rows_of env done
+    tied = all_tied ops (scan_rows input) rows_of (mentions [] script) [] [] [] script (start_tied ops (scan_rows input) rows_of) (λ k l. refl) told
 
     zeroed : (n : ℕ) → 0 + n ≡ n
     zeroed n = omega arith
 
-    in_scans : (i : ℕ) (d : ScanDecl) → slice_get (scans_of_all env kept ++ scans_of_all env outs) i ≡ Some d → bag_at from.scans i ≡ input d
-    in_scans i d e = bag_mapped input (scans_of_all env kept ++ scans_of_all env outs) i d e
+    in_scans : (i : ℕ) (d : ScanDecl) → slice_get (scans_of_all env kept ++ scans_of_all env outs) i ≡ Some d → bag_at from.scans i ≡ scan_rows input d
+    in_scans i d e =
+        ap (λ bags. bag_at bags i) (rows_declared input (scans_of_all env kept ++ scans_of_all env outs) (flat_map scans_of ((dag_of script).shared ++ (dag_of script).outputs)))
+        ∙ bag_mapped (scan_rows input) (scans_of_all env kept ++ scans_of_all env outs) i d e
 
     live : (k : ℕ) → (has outs k || has (reached outs 0 env) k) ≡ true → (j : ℕ) → has (part_at env k).refs j ≡ true → bag_at from.shared (place_in kept j) ≡ rows_of j
     live k l j m = read_place rows_of kept j (refs_kept outs env (all_below (mentions [] script) [] [] script tt) k l j m)

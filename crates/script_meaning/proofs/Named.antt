@@ -14,12 +14,14 @@ use Rattle.scope_expr.specs.declared.expr.Expr.TheVariants.{Literal, Col, Neg', 
 use Rattle.logical_trees.specs.declared.agg.Agg.{Agg}
 use Rattle.logical_trees.specs.Rows.{order_of}
 use Rattle.logical_trees.specs.Formed.{IsOver, IsArgumentOver, IsOrderOver, IsGroup, IsCall, IsJoin}
+use Rattle.logical_dag.specs.declared.dag.Stored.{Stored}
+use Rattle.logical_dag.specs.Scripts.{IsStoredOver}
 use Rattle.scope_expr.specs.Moved.{moved}
 use Rattle.column_ranks.specs.Rising.{IsRising}
 use Rattle.column_ranks.specs.RisingLemmas.{rising_le, rising_from, rising_below, rising_set, rising_range}
 use Rattle.script_meaning.specs.Script.{Call}
-use Rattle.script_meaning.specs.Part.{numbered, order_at, call_at}
-use Rattle.script_meaning.specs.Placed.{IsBelow, IsBelowOpt, AreBelow, AreArgsBelow, ArePlaces, IsOrderBelow, IsPresortBelow, ArePairs}
+use Rattle.script_meaning.specs.Part.{numbered, order_at, stored_at, call_at}
+use Rattle.script_meaning.specs.Placed.{IsBelow, IsBelowOpt, AreBelow, AreArgsBelow, ArePlaces, IsOrderBelow, IsPresortBelow, IsStoredBelow, ArePairs}
 use Rattle.script_meaning.proofs.Shaped.{rising_weaken}
 
 -- ---- all elements
@@ -77,6 +79,10 @@ module _ (f : ℕ → ℕ) (cols : List ℕ) (n : ℕ) (there : (p : ℕ) → p 
   pub presort_over : (presort : Option (List (ℕ × Dir))) → IsPresortBelow n presort → IsOrderOver cols (order_of (order_at f presort))
   presort_over None h = refl
   presort_over (Some order) h = order_moved order h
+
+  pub stored_over : (stored : Option Stored) → IsStoredBelow n stored → IsStoredOver cols (stored_at f stored)
+  stored_over None h = tt
+  stored_over (Some s) h = (within_moved s.hash h.0, presort_over s.sorted h.1)
 
 pub sides_moved : (f g : ℕ → ℕ) (left right : List ℕ) (m n : ℕ) → ((p : ℕ) → p < m → has left (f p) ≡ true) → ((p : ℕ) → p < n → has right (g p) ≡ true) → (on : List (ℕ × ℕ)) → ArePairs m n on
     → All (λ (p : ℕ × ℕ). (has left p.0 ≡ true) × (has right p.1 ≡ true)) (map (λ p. (f p.0, g p.1)) on)

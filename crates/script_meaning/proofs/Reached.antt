@@ -115,7 +115,7 @@ bound_below all earlier env h (process source call) j m = source_below all earli
 bound_below all earlier env h (reduce source on presort call) j m = source_below all earlier env h source j m
 bound_below all earlier env h (combine source before other after on call) j m =
     either_below (length env) (source_part all earlier env source) (source_part all earlier env other) (source_below all earlier env h source) (source_below all earlier env h other) j m
-bound_below all earlier env h (output source stream) j m = placed_below all env (input_at earlier source) h j m
+bound_below all earlier env h (output source stream stored) j m = placed_below all env (input_at earlier source) h j m
 
 pub all_below : (all : List ℕ) (earlier : List Statement) (env : List Part) (rest : List Statement) → AllBelow 0 env → AllBelow 0 (bound_from all earlier env rest)
 all_below all earlier env [] h = h

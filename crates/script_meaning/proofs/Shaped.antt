@@ -164,6 +164,7 @@ beside a b cols count op = record {
   cols = cols;
   count = count;
   order = None;
+  stored = None;
   scans = a.scans ++ b.scans;
   refs = a.refs ++ b.refs;
   tree = λ name s c. two (op c) (a.tree name s c) (b.tree name (s + length a.scans) (c + a.count));

@@ -24,7 +24,7 @@ join_placed = (
         orders = tt;
       },
     ),
-    (omega arith, tt),
+    ((omega arith, tt), tt),
   ),
 )
 
@@ -36,4 +36,4 @@ join_fits (suc (suc (suc k))) = omega arith
 
 pub rules_hold : Rules
 unfolding shape-the_row-Expr-0 hidden-the_row-Expr-0 hidden columns_where value_cmp
-rules_hold = record { there = join_placed; fits = join_fits; shared = refl; clauses = refl; unused = refl; left = refl; right = refl; full = refl }
+rules_hold = record { there = join_placed; fits = join_fits; shared = refl; clauses = refl; unused = refl; declared = refl; left = refl; right = refl; full = refl }

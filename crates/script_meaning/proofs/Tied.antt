@@ -14,6 +14,7 @@ use Rattle.user_ops.specs.Told.{Operators, combines_at}
 use Rattle.script_trees.specs.declared.agg.AggKind.{AggKind}
 use Rattle.scope_expr.specs.declared.expr.Expr.{Expr}
 use Rattle.logical_dag.specs.declared.dag.ScanDecl.{ScanDecl}
+use Rattle.logical_dag.specs.declared.dag.Stored.{Stored}
 use Rattle.logical_trees.specs.declared.logic_op.LogicOp.{LogicOp}
 use Rattle.logical_trees.specs.declared.logic_op.LogicOp.TheVariants.{Filter, Project, Group, Process, Reduce, Top}
 use Rattle.logical_trees.specs.Tree.{columns_of}
@@ -25,8 +26,8 @@ use Rattle.column_ranks.specs.RisingLemmas.{rising_range, rank_at, rank_shift}
 use Rattle.list_lemmas.specs.Bags.{same_permuted}
 use Rattle.column_ranks.specs.RowLemmas.{holds_moved, projected_moved, items_moved, agree_moved, values, merged_values}
 use Rattle.script_meaning.specs.Script.{Call, Side, Grouping, Query}
-use Rattle.script_meaning.specs.Meaning.{places, Table, table, no_table, where_rows, where_opt, join_rows, key_places, group_rows, group_opt, item_rows, distinct_opt, order_list, top_opt, outer_rows, process_rows, reduce_rows, combine_rows, query_rows}
-use Rattle.script_meaning.specs.Part.{Part, cols_at, number, nothing, scanned, referred, over, join_on, joined_part, call_at, order_at, process_part, reduce_part, combine_on, combine_part, filter_opt, numbered, group_part, listed, grouping_opt, project_part, unique_opt, first_opt, query_part}
+use Rattle.script_meaning.specs.Meaning.{places, Table, table, no_table, where_rows, where_opt, join_rows, key_places, group_rows, group_opt, item_rows, distinct_opt, order_list, top_opt, outer_rows, process_rows, reduce_rows, combine_rows, query_rows, with_order, unless_stored}
+use Rattle.script_meaning.specs.Part.{Part, cols_at, number, nothing, scanned, referred, over, join_on, joined_part, call_at, order_at, process_part, reduce_part, combine_on, combine_part, filter_opt, numbered, group_part, listed, grouping_opt, project_part, unique_opt, first_opt, query_part, stored_part}
 use Rattle.script_meaning.specs.Laws.{IsOuterCall}
 use Rattle.script_meaning.proofs.Shaped.{get_left, get_right, has_left, has_right, IsShaped, filter_opt_shaped, project_shaped, first_shaped, keys_rising, group_shaped, keys_ascend, query_shaped, process_shaped, reduce_shaped, nothing_shaped, scanned_shaped, referred_shaped, beside, left_rises, right_rises, joined_shaped, combine_shaped}
 use Rattle.script_meaning.proofs.Grouped.{group_moved}
@@ -82,6 +83,14 @@ module _ (ops : Operators) (input : ScanDecl → Bag) (rows_of : ℕ → Bag) wh
   filter_opt_tied (Some e) a A t =
       over_tied a A t a.cols a.count (λ c. Filter (moved (number a c) e)) (where_rows e A) (omega arith) t.width refl (filter_opt_shaped (Some e) a t.shape)
       (λ c l h. same_permuted _ _ (λ i. filter (λ r. holds_moved (number a c) (places A.width) (cols_at a c) h e r i) A.rows))
+
+  pub stored_tied : (stored : Option Stored) (a : Part) (A : Table) → Tied a A → Tied (stored_part stored a) (with_order (unless_stored stored A.order) A)
+  stored_tied stored a A t = record {
+    width = t.width;
+    order = ap (unless_stored stored) t.order;
+    shape = record { rising = t.shape.rising; columns = t.shape.columns };
+    rows = λ name s c from r. t.rows name s c from (record { scans = r.scans; refs = r.refs; room = r.room });
+  }
 
   project_tied : (es : List Expr) (a : Part) (A : Table) → Tied a A → Tied (project_part es a) (item_rows es A)
   project_tied es a A t =

@@ -1,6 +1,6 @@
 -- The Dag of a script that names what is there is one that binding can give.
 use Rattle.std.proofs.Common.{◌≡◌, ℕ, zero, suc, ◌+◌, ◌<◌, ◌≤◌, Bool, true, false, cond, ◌||◌, List, [], ◌∷◌, ◌++◌, map, flat_map, length, take, refl, sym, ap, ap₂, ◌∙◌, subst, arith, Option, Some, None, slice_get, ◌==◌, nat_eq, nat_lt, ◌⊎◌, inl, inr}
-use Rattle.std.specs.Prelude.{IsSomeAnd, IfSome, All}
+use Rattle.std.specs.Prelude.{option_map, IsSomeAnd, IfSome, All}
 use Rattle.std.specs.List.{range_with_len}
 use Rattle.std.proofs.lemmas.Bool.Decides.{nat_tests}
 use Rattle.std.proofs.lemmas.List.{length-map, length-append, length_push, map-append}
@@ -10,21 +10,24 @@ use Rattle.std.proofs.lemmas.Option.{slice_get_within}
 use Rattle.col_sets.specs.Sets.{has, count}
 use Rattle.col_sets.specs.Columns.{has-filter}
 use Rattle.col_sets.specs.Tests.{either, both, or_left, or_right, from_test, to_test}
+use Rattle.col_sets.specs.declared.dir.Dir.{Dir}
 use Rattle.logical_dag.specs.declared.dag.ScanDecl.{ScanDecl}
+use Rattle.logical_dag.specs.declared.dag.Stored.{Stored}
 use Rattle.logical_trees.specs.Tree.{Expression, columns_of}
 use Rattle.logical_trees.specs.Rows.{order_of}
 use Rattle.logical_trees.specs.Formed.{IsOrderOver}
-use Rattle.logical_dag.specs.Scripts.{scans_of, IsWritten}
+use Rattle.logical_dag.specs.Scripts.{scans_of, IsWritten, IsStoredOver}
 use Rattle.column_ranks.specs.Rising.{IsRising}
 use Rattle.column_ranks.specs.RisingLemmas.{rising_from, rising_below, rising_range, rising_filter}
 use Rattle.script_meaning.specs.Script.{Source, from_result, from_stream, Joined, Beside, inners, outer, Command, extract, select, process, reduce, combine, output, gives, Statement, input_at}
-use Rattle.script_meaning.specs.Part.{Part, cols_at, number}
+use Rattle.script_meaning.specs.Part.{Part, cols_at, number, stored_at}
 use Rattle.script_meaning.specs.Bound.{mentions, is_shared, stands, found, placed, source_part, from_part, beside_part, bound, bound_from, parts_of}
-use Rattle.script_meaning.specs.Dag.{or_nothing, part_at, outputs_from, outs_of, reached, kept_of, place_in, scans_of_all, trees_from, column_order, dag_of}
+use Rattle.script_meaning.specs.Dag.{or_nothing, part_at, outputs_from, outs_of, reached, kept_of, place_in, scans_of_all, trees_from, column_order, column_stored, dag_of}
 use Rattle.script_meaning.specs.Placed.{IsSourceThere, AreJoinsPlaced, IsBesidePlaced, IsCommandPlaced, ArePlaced}
-use Rattle.script_meaning.specs.Written.{AreOrdersOver, GivesBindable}
-use Rattle.script_meaning.proofs.Named.{all_none, all_more, presort_over}
-use Rattle.script_meaning.proofs.Built.{range_append, AreKnown, IsBuilt, there, query_built, process_built, reduce_built, scanned_built, referred_built, joined_built, combine_built}
+use Rattle.script_meaning.specs.Written.{AreOutputsOver, GivesBindable}
+use Rattle.script_meaning.proofs.Named.{all_none, all_more, presort_over, stored_over}
+use Rattle.script_meaning.proofs.Declared.{length_declared, declared_over}
+use Rattle.script_meaning.proofs.Built.{range_append, AreDeclared, declared_append, AreKnown, IsBuilt, there, query_built, process_built, reduce_built, stored_built, scanned_built, referred_built, joined_built, combine_built}
 use Rattle.script_meaning.proofs.Env.{get_below, get_last, get_past}
 use Rattle.script_meaning.proofs.Reached.{AllBelow, below_at, all_below, refs_kept}
 
@@ -98,7 +101,7 @@ module _ (width_of : ℕ → ℕ) where
   source_built : (all : List ℕ) (earlier : List Statement) (env : List Part) → AreBuilt env → AreWide env → (source : Source) → IsSourceThere earlier env source
       → IsBuilt width_of (source_part all earlier env source)
   source_built all earlier env h w (from_result i) l = placed_built all env h w (input_at earlier i) l
-  source_built all earlier env h w (from_stream d) l = scanned_built width_of d
+  source_built all earlier env h w (from_stream d) l = scanned_built width_of d l
 
   joins_built : (all : List ℕ) (earlier : List Statement) (env : List Part) → AreBuilt env → AreWide env → (joins : List Joined) (a : Part) → IsBuilt width_of a → AreJoinsPlaced all earlier env a joins
       → IsBuilt width_of (from_part all earlier env a joins)
@@ -112,14 +115,14 @@ module _ (width_of : ℕ → ℕ) where
   beside_all_built all earlier env h w (outer side call j) a b p = combine_built width_of j.on None None call a _ b (source_built all earlier env h w j.source p.0) p.1 tt tt
 
   bound_built : (all : List ℕ) (earlier : List Statement) (env : List Part) → AreBuilt env → AreWide env → (c : Command) → IsCommandPlaced all earlier env c → IsBuilt width_of (bound all earlier env c)
-  bound_built all earlier env h w (extract d) p = scanned_built width_of d
+  bound_built all earlier env h w (extract d) p = scanned_built width_of d p
   bound_built all earlier env h w (select q) p =
       query_built width_of q _ (beside_all_built all earlier env h w q.beside _ (source_built all earlier env h w q.source p.0) p.1) p.2
   bound_built all earlier env h w (process source call) p = process_built width_of call _ (source_built all earlier env h w source p)
   bound_built all earlier env h w (reduce source on presort call) p = reduce_built width_of on presort call _ (source_built all earlier env h w source p.0) p.1 p.2
   bound_built all earlier env h w (combine source before other after on call) p =
       combine_built width_of on before after call _ _ (source_built all earlier env h w source p.0) (source_built all earlier env h w other p.1) p.2 p.3 p.4
-  bound_built all earlier env h w (output source stream) p = placed_built all env h w (input_at earlier source) p
+  bound_built all earlier env h w (output source stream stored) p = stored_built width_of stored _ (placed_built all env h w (input_at earlier source) p.0) p.1
 
   push_built : (env : List Part) (b : Part) → AreBuilt env → IsBuilt width_of b → AreBuilt (env ++ b ∷ [])
   push_built env b h new k x e = at (nat_lt k (length env)) refl (k == length env) refl
@@ -152,6 +155,12 @@ outs_below n (s ∷ rest) k h = go (gives s.command) (λ q. let l : k < n + 1 + 
         which : (nat_eq n k ≡ true) ⊎ (has (outputs_from (n + 1) rest) k ≡ true) → k < n + suc (length rest)
         which (inl q) = let e : n ≡ k = from_test n k q in omega arith
         which (inr q) = more q
+
+-- a stored output has no order in columns where it has none by place
+unordered : (f : ℕ → ℕ) (stored : Option Stored) (order : Option (List (ℕ × Dir))) → IfSome stored (λ s. order ≡ None)
+    → IfSome (stored_at f stored) (λ s. option_map (map {B = ℕ × Dir} (λ k. (f k.0, k.1))) order ≡ None)
+unordered f None order h = tt
+unordered f (Some s) order h = ap (option_map (map {B = ℕ × Dir} (λ k. (f k.0, k.1)))) h
 
 -- ---- the trees of the Dag
 
@@ -201,15 +210,29 @@ module _ (name : ℕ → ℕ) (env : List Part) where
         ∙ ap₂ (λ l m. l ++ m) ((built k (h k (or_left _ _ (to_test k k refl)))).widths name s 0) (trees_wide ks (s + length (part_at env k).scans) (λ j q. h j (or_right _ _ q)))
         ∙ sym (map-append (λ (d : ScanDecl). length d.schema) (part_at env k).scans (scans_of_all env ks))
 
+    scans_declared : (ks : List ℕ) → ((k : ℕ) → has ks k ≡ true → k < length env) → AreDeclared (scans_of_all env ks)
+    scans_declared [] h = tt
+    scans_declared (k ∷ ks) h =
+        declared_append (part_at env k).scans (scans_of_all env ks) (built k (h k (or_left _ _ (to_test k k refl)))).declared (scans_declared ks (λ j q. h j (or_right _ _ q)))
+
     module _ (fits : (k : ℕ) → (part_at env k).count ≤ 128) where
-      all_ordered : (ks : List ℕ) (s : ℕ) → ((k : ℕ) → has ks k ≡ true → k < length env) → AreOrdersOver (map (λ k. column_order (part_at env k)) ks) (trees_from name env s ks)
-      all_ordered [] s h = tt
-      all_ordered (k ∷ ks) s h =
+      -- an output's order, and what it is stored by, are over its columns
+      all_over : (ks : List ℕ) (s : ℕ) → ((k : ℕ) → has ks k ≡ true → k < length env)
+          → AreOutputsOver (map (λ k. column_order (part_at env k)) ks) (map (λ k. column_stored (part_at env k)) ks) (trees_from name env s ks)
+      all_over [] s h = tt
+      all_over (k ∷ ks) s h =
+          let a = part_at env k in
           let b = built k (h k (or_left _ _ (to_test k k refl))) in
-          let room : 0 + (part_at env k).count ≤ 128 = let l = fits k in omega (arith, l) in (
-            subst (λ (cols : List ℕ). IsOrderOver cols (order_of (column_order (part_at env k)))) (sym (b.shape.columns name s 0 room))
-                (presort_over (number (part_at env k) 0) (cols_at (part_at env k) 0) (length (part_at env k).cols) (there width_of (part_at env k) 0) (part_at env k).order b.order),
-            all_ordered ks (s + length (part_at env k).scans) (λ j q. h j (or_right _ _ q)),
+          let room : 0 + a.count ≤ 128 = let l = fits k in omega (arith, l) in
+          let same = sym (b.shape.columns name s 0 room) in (
+            (
+              subst (λ (cols : List ℕ). IsOrderOver cols (order_of (column_order a))) same
+                  (presort_over (number a 0) (cols_at a 0) (length a.cols) (there width_of a 0) a.order b.order),
+              subst (λ (cols : List ℕ). IsStoredOver cols (column_stored a)) same
+                  (stored_over (number a 0) (cols_at a 0) (length a.cols) (there width_of a 0) a.stored b.stored.0),
+              unordered (number a 0) a.stored a.order b.stored.1,
+            ),
+            all_over ks (s + length a.scans) (λ j q. h j (or_right _ _ q)),
           )
 
       -- a tree is written, where what it refers to is there
@@ -245,13 +268,13 @@ gives_bindable script fits is_placed = record {
       ∙ ap₂ (λ l m. l ++ m) (trees_scans name env width_of built kept 0 kept_below) (trees_scans name env width_of built outs (length (scans_of_all env kept)) outs_in)
       ∙ ap (λ n. range_with_len 0 (length (scans_of_all env kept)) ++ range_with_len n (length (scans_of_all env outs))) (from_zero (length (scans_of_all env kept)))
       ∙ range_append 0 (length (scans_of_all env kept)) (length (scans_of_all env outs))
-      ∙ ap (range_with_len 0) (sym (length-map (dag_of script).scans (λ (d : ScanDecl). length d.schema) ∙ length-append (scans_of_all env kept) (scans_of_all env outs)));
-  wide =
-      ap (map (λ (x : ℕ × List ℕ). length x.1)) (flat_map-append scans_of (dag_of script).shared (dag_of script).outputs)
-      ∙ map-append (λ (x : ℕ × List ℕ). length x.1) (flat_map scans_of (dag_of script).shared) (flat_map scans_of (dag_of script).outputs)
-      ∙ ap₂ (λ l m. l ++ m) (trees_wide name env width_of built kept 0 kept_below) (trees_wide name env width_of built outs (length (scans_of_all env kept)) outs_in)
-      ∙ sym (map-append (λ (d : ScanDecl). length d.schema) (scans_of_all env kept) (scans_of_all env outs));
-  ordered = all_ordered name env width_of built fits outs (length (scans_of_all env kept)) outs_in;
+      ∙ ap (range_with_len 0)
+      (sym (length_declared (scans_of_all env kept ++ scans_of_all env outs) (flat_map scans_of ((dag_of script).shared ++ (dag_of script).outputs))
+      ∙ length-append (scans_of_all env kept) (scans_of_all env outs)));
+  declared =
+      declared_over (scans_of_all env kept ++ scans_of_all env outs) (flat_map scans_of ((dag_of script).shared ++ (dag_of script).outputs)) wide
+      (declared_append (scans_of_all env kept) (scans_of_all env outs) (scans_declared name env width_of built kept kept_below) (scans_declared name env width_of built outs outs_in));
+  over = all_over name env width_of built fits outs (length (scans_of_all env kept)) outs_in;
 }
   where
     env : List Part
@@ -296,6 +319,13 @@ gives_bindable script fits is_placed = record {
     outs_in k h =
         let l : k < 0 + length script = outs_below 0 script k h in
         let e : length env ≡ 0 + length script = keeps_length (mentions [] script) [] [] script in omega (arith, l, e)
+
+    wide : map (λ x. count x.1) (flat_map scans_of ((dag_of script).shared ++ (dag_of script).outputs)) ≡ map (λ d. length d.schema) (scans_of_all env kept ++ scans_of_all env outs)
+    wide =
+        ap (map (λ (x : ℕ × List ℕ). length x.1)) (flat_map-append scans_of (dag_of script).shared (dag_of script).outputs)
+        ∙ map-append (λ (x : ℕ × List ℕ). length x.1) (flat_map scans_of (dag_of script).shared) (flat_map scans_of (dag_of script).outputs)
+        ∙ ap₂ (λ l m. l ++ m) (trees_wide name env width_of built kept 0 kept_below) (trees_wide name env width_of built outs (length (scans_of_all env kept)) outs_in)
+        ∙ sym (map-append (λ (d : ScanDecl). length d.schema) (scans_of_all env kept) (scans_of_all env outs))
 
     below : AllBelow 0 env
     below = all_below (mentions [] script) [] [] script tt

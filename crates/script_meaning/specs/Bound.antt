@@ -1,7 +1,7 @@
 -- The statements of a script as parts: results that are mentioned twice are shared, others stand in their consumer.
 use Rattle.std.specs.Prelude.{ℕ, ◌==◌, nat_le, count_by, Bool, true, false, List, [], ◌∷◌, ◌++◌, flat_map, Option, Some, None, slice_get}
 use Rattle.script_meaning.specs.Script.{Source, from_result, from_stream, Joined, Beside, inners, outer, Command, extract, select, process, reduce, combine, output, Statement, input_at}
-use Rattle.script_meaning.specs.Part.{Part, nothing, scanned, referred, joined_part, process_part, reduce_part, combine_part, query_part}
+use Rattle.script_meaning.specs.Part.{Part, nothing, scanned, referred, joined_part, process_part, reduce_part, combine_part, query_part, stored_part}
 
 -- the inputs of a command, an omitted one being None
 abbrev pub source_inputs : Source → List (Option ℕ)
@@ -18,7 +18,7 @@ inputs (select q) = source_inputs q.source ++ beside_inputs q.beside
 inputs (process source call) = source_inputs source
 inputs (reduce source on presort call) = source_inputs source
 inputs (combine source before other after on call) = source_inputs source ++ source_inputs other
-inputs (output source stream) = source ∷ []
+inputs (output source stream stored) = source ∷ []
 
 abbrev pub one_or_none : Option ℕ → List ℕ
 one_or_none None = []
@@ -66,7 +66,7 @@ bound all earlier env (process source call) = process_part call (source_part all
 bound all earlier env (reduce source on presort call) = reduce_part on presort call (source_part all earlier env source)
 bound all earlier env (combine source before other after on call) =
     combine_part on before after call (source_part all earlier env source) (source_part all earlier env other)
-bound all earlier env (output source stream) = placed all env (input_at earlier source)
+bound all earlier env (output source stream stored) = stored_part stored (placed all env (input_at earlier source))
 
 abbrev pub bound_from : List ℕ → List Statement → List Part → List Statement → List Part
 bound_from all earlier env [] = env

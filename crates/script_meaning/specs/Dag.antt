@@ -1,13 +1,15 @@
 -- The Dag of a script.
-use Rattle.std.specs.Prelude.{ℕ, ◌+◌, ◌==◌, ◌||◌, if◌then◌else◌, List, [], ◌∷◌, ◌++◌, map, filter, flat_map, length, Option, Some, None, slice_get, option_map}
+use Rattle.std.specs.Prelude.{ℕ, ◌+◌, ◌==◌, ◌||◌, if◌then◌else◌, List, [], ◌∷◌, ◌++◌, map, filter, flat_map, length, get_or, Option, Some, None, slice_get, option_map}
 use Rattle.std.specs.Option.{option_map_or}
 use Rattle.std.specs.List.{range_with_len, position_or_len}
 use Rattle.col_sets.specs.declared.dir.Dir.{Dir}
 use Rattle.col_sets.specs.Sets.{has}
 use Rattle.logical_dag.specs.declared.dag.ScanDecl.{ScanDecl}
+use Rattle.logical_dag.specs.declared.dag.Stored.{Stored}
+use Rattle.logical_dag.specs.Scripts.{scans_of}
 use Rattle.logical_trees.specs.Tree.{Expression}
 use Rattle.script_meaning.specs.Script.{Statement, Command, output, gives}
-use Rattle.script_meaning.specs.Part.{Part, nothing, number}
+use Rattle.script_meaning.specs.Part.{Part, nothing, number, stored_at}
 use Rattle.script_meaning.specs.Bound.{parts_of}
 
 abbrev pub or_nothing : Option Part → Part
@@ -47,7 +49,7 @@ trees_from name env s [] = []
 trees_from name env s (k ∷ ks) = (part_at env k).tree name s 0 ∷ trees_from name env (s + length (part_at env k).scans) ks
 
 abbrev pub stream_in : Command → List ℕ
-stream_in (output source stream) = stream
+stream_in (output source stream stored) = stream
 stream_in c = []
 
 abbrev pub stream_at : List Statement → ℕ → List ℕ
@@ -57,20 +59,43 @@ stream_at script k = option_map_or (λ s. stream_in s.command) (slice_get script
 abbrev pub column_order : Part → Option (List (ℕ × Dir))
 column_order b = option_map (map (λ k. (number b 0 k.0, k.1))) b.order
 
+-- how an output is stored, in the columns of its tree
+abbrev pub column_stored : Part → Option Stored
+column_stored b = stored_at (number b 0) b.stored
+
+-- a scan with its declaration in the columns of its node
+abbrev pub declared : ScanDecl → List ℕ → ScanDecl
+declared d cols = record d { stored = stored_at (λ p. get_or cols p 128) d.stored }
+
+-- so each of them, beside the nodes
+abbrev pub declared_all : List ScanDecl → List (ℕ × List ℕ) → List ScanDecl
+declared_all [] nodes = []
+declared_all (d ∷ scans) [] = d ∷ declared_all scans []
+declared_all (d ∷ scans) (s ∷ nodes) = declared d s.1 ∷ declared_all scans nodes
+
 pub record ScriptDag : Type 0 where
   pub scans : List ScanDecl
   pub shared : List Expression
   pub streams : List (List ℕ)
   pub orders : List (Option (List (ℕ × Dir)))
+  pub stored : List (Option Stored)
   pub outputs : List Expression
+
+-- the trees of the shared results, and those of the outputs
+abbrev pub kept_trees : List Part → List ℕ → List Expression
+kept_trees env kept = trees_from (place_in kept) env 0 kept
+
+abbrev pub out_trees : List Part → List ℕ → List ℕ → List Expression
+out_trees env outs kept = trees_from (place_in kept) env (length (scans_of_all env kept)) outs
 
 abbrev pub dag_at : List Statement → List Part → List ℕ → List ℕ → ScriptDag
 dag_at script env outs kept = record {
-  scans = scans_of_all env kept ++ scans_of_all env outs;
-  shared = trees_from (place_in kept) env 0 kept;
+  scans = declared_all (scans_of_all env kept ++ scans_of_all env outs) (flat_map scans_of (kept_trees env kept ++ out_trees env outs kept));
+  shared = kept_trees env kept;
   streams = map (stream_at script) outs;
   orders = map (λ k. column_order (part_at env k)) outs;
-  outputs = trees_from (place_in kept) env (length (scans_of_all env kept)) outs;
+  stored = map (λ k. column_stored (part_at env k)) outs;
+  outputs = out_trees env outs kept;
 }
 
 abbrev pub outs_of : List Statement → List ℕ

@@ -1,6 +1,6 @@
 -- Some scripts, their Dags, and an outer join.
 use Rattle.std.specs.Prelude.{◌≡◌, ℕ, pos, false, List, [], ◌∷◌, Some, None}
-use Rattle.col_sets.specs.declared.dir.Dir.TheVariants.{Down}
+use Rattle.col_sets.specs.declared.dir.Dir.TheVariants.{Up, Down}
 use Rattle.scope_value.specs.declared.value.Value.{Value}
 use Rattle.scope_value.specs.declared.value.Value.TheVariants.{Int, Null}
 use Rattle.scope_value.specs.declared.schema.Column.{Column}
@@ -10,6 +10,7 @@ use Rattle.script_trees.specs.declared.agg.AggKind.TheVariants.{Count}
 use Rattle.scope_expr.specs.declared.expr.Expr.{Expr}
 use Rattle.scope_expr.specs.declared.expr.Expr.TheVariants.{Literal, Col, Pair}
 use Rattle.logical_dag.specs.declared.dag.ScanDecl.{ScanDecl}
+use Rattle.logical_dag.specs.declared.dag.Stored.{Stored}
 use Rattle.logical_trees.specs.declared.logic_op.LogicOp.TheVariants.{Scan, Ref, Filter, Project, Join, Group, Top}
 use Rattle.logical_trees.specs.Tree.{leaf, one, two}
 use Rattle.logical_trees.specs.Rows.{Bag, agree_on}
@@ -30,7 +31,7 @@ a_column = record { name = []; kind = Long }
 
 -- a stream of two columns, by its number
 abbrev pub stream : ℕ → ScanDecl
-stream n = record { stream = n ∷ []; op = 0; args = []; schema = a_column ∷ a_column ∷ [] }
+stream n = record { stream = n ∷ []; op = 0; args = []; schema = a_column ∷ a_column ∷ []; stored = None }
 
 abbrev pub plain : Query
 plain = record { source = from_result None; beside = inners []; test = None; group = None; items = []; having = None; distinct = false; order = None; top = None }
@@ -48,7 +49,7 @@ self_join =
         items = col 0 ∷ col 3 ∷ [];
       });
     }
-    ∷ record { name = None; command = output None (9 ∷ []) } ∷ []
+    ∷ record { name = None; command = output None (9 ∷ []) None } ∷ []
 
 -- EXTRACT; 1 = SELECT TOP 3 of the count by the first column, HAVING the count < 7 ORDER BY it, downward; OUTPUT 1
 abbrev pub counted : List Statement
@@ -64,7 +65,7 @@ counted =
         top = Some 3;
       });
     }
-    ∷ record { name = None; command = output (Some 1) (9 ∷ []) } ∷ []
+    ∷ record { name = None; command = output (Some 1) (9 ∷ []) None } ∷ []
 
 -- 1 = EXTRACT; 2 = SELECT FROM 1; twice a mention of 2 that no output reaches; OUTPUT 1, which is mentioned twice
 abbrev pub half_used : List Statement
@@ -73,7 +74,28 @@ half_used =
     ∷ record { name = Some 2; command = select (record plain { source = from_stream (stream 1); items = col 1 ∷ [] }) }
     ∷ record { name = Some 3; command = select (record plain { source = from_result (Some 2); beside = inners (record { source = from_result (Some 2); on = (0, 0) ∷ [] } ∷ []); items = col 0 ∷ [] }) }
     ∷ record { name = Some 4; command = select (record plain { source = from_result (Some 1); items = col 1 ∷ [] }) }
-    ∷ record { name = None; command = output (Some 1) (9 ∷ []) } ∷ []
+    ∷ record { name = None; command = output (Some 1) (9 ∷ []) None } ∷ []
+
+-- stored by the second column, and in the order of the first
+abbrev pub by_second : Stored
+by_second = record { hash = 1 ∷ []; sorted = Some ((0, Up) ∷ []) }
+
+-- 1 = EXTRACT; 2 = EXTRACT of a stored stream; SELECT 1's first and 2's second FROM 1 JOIN 2 ON their first columns ORDER BY
+-- the first; OUTPUT, stored
+abbrev pub stored_join : List Statement
+stored_join =
+    record { name = Some 1; command = extract (stream 0) }
+    ∷ record { name = Some 2; command = extract (record (stream 1) { stored = Some by_second }) }
+    ∷ record {
+      name = None;
+      command = select (record plain {
+        source = from_result (Some 1);
+        beside = inners (record { source = from_result (Some 2); on = (0, 0) ∷ [] } ∷ []);
+        items = col 0 ∷ col 3 ∷ [];
+        order = Some ((0, Up) ∷ []);
+      });
+    }
+    ∷ record { name = None; command = output None (9 ∷ []) (Some by_second) } ∷ []
 
 abbrev pub row : List ℕ → List Value
 row [] = []
@@ -97,6 +119,7 @@ pub record Rules : Type 0 where
         shared = leaf (Scan 0 (0 ∷ 1 ∷ [])) ∷ [];
         streams = (9 ∷ []) ∷ [];
         orders = None ∷ [];
+        stored = None ∷ [];
         outputs = one (Project (col 0 ∷ col 3 ∷ []) (4 ∷ 5 ∷ []))
             (one (Filter (small 1)) (two (Join (record { items = (0, 2) ∷ [] })) (leaf (Ref 0 (0 ∷ 1 ∷ []))) (leaf (Ref 0 (2 ∷ 3 ∷ []))))) ∷ [];
       }
@@ -107,13 +130,25 @@ pub record Rules : Type 0 where
         shared = [];
         streams = (9 ∷ []) ∷ [];
         orders = Some ((4, Down) ∷ []) ∷ [];
+        stored = None ∷ [];
         outputs = one (Top (record { n = 3; order = (4, Down) ∷ [] }))
             (one (Filter (small 4)) (one (Project (col 0 ∷ col 2 ∷ []) (3 ∷ 4 ∷ []))
             (one (Group (record { written = Some (0 ∷ []); keys = 0 ∷ []; aggs = record { kind = Count; arg = None; id = 2 } ∷ [] })) (leaf (Scan 0 (0 ∷ 1 ∷ [])))))) ∷ [];
       }
   -- what no output reaches is left out, with its scans; a mention in a statement that none reaches counts all the same
   pub unused : dag_of half_used
-      ≡ record { scans = stream 0 ∷ []; shared = leaf (Scan 0 (0 ∷ 1 ∷ [])) ∷ []; streams = (9 ∷ []) ∷ []; orders = None ∷ []; outputs = leaf (Ref 0 (0 ∷ 1 ∷ [])) ∷ [] }
+      ≡ record { scans = stream 0 ∷ []; shared = leaf (Scan 0 (0 ∷ 1 ∷ [])) ∷ []; streams = (9 ∷ []) ∷ []; orders = None ∷ []; stored = None ∷ []; outputs = leaf (Ref 0 (0 ∷ 1 ∷ [])) ∷ [] }
+  -- declarations are in the columns of the scan and of the output, and a stored output has no order
+  pub declared : dag_of stored_join
+      ≡ record {
+        scans = stream 0 ∷ record (stream 1) { stored = Some (record { hash = 3 ∷ []; sorted = Some ((2, Up) ∷ []) }) } ∷ [];
+        shared = [];
+        streams = (9 ∷ []) ∷ [];
+        orders = None ∷ [];
+        stored = Some (record { hash = 5 ∷ []; sorted = Some ((4, Up) ∷ []) }) ∷ [];
+        outputs = one (Project (col 0 ∷ col 3 ∷ []) (4 ∷ 5 ∷ []))
+            (two (Join (record { items = (0, 2) ∷ [] })) (leaf (Scan 0 (0 ∷ 1 ∷ []))) (leaf (Scan 1 (2 ∷ 3 ∷ [])))) ∷ [];
+      }
   -- rows without a partner beside nulls
   pub left : outer_bag left_side (agree_on ((0, 0) ∷ []) (places 2) (places 2)) 2 2 lefts rights ≡ row (1 ∷ 1 ∷ 1 ∷ 9 ∷ []) ∷ (Int (pos 2) ∷ Int (pos 2) ∷ Null ∷ Null ∷ []) ∷ []
   pub right : outer_bag right_side (agree_on ((0, 0) ∷ []) (places 2) (places 2)) 2 2 lefts rights ≡ row (1 ∷ 1 ∷ 1 ∷ 9 ∷ []) ∷ (Null ∷ Null ∷ Int (pos 3) ∷ Int (pos 8) ∷ []) ∷ []

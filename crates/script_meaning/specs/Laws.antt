@@ -4,7 +4,7 @@ use Rattle.user_ops.specs.Told.{Operators, combines_at}
 use Rattle.logical_dag.specs.declared.dag.ScanDecl.{ScanDecl}
 use Rattle.logical_trees.specs.declared.args.CallArgs.{CallArgs}
 use Rattle.logical_trees.specs.Rows.{Bag, agree_on, combined}
-use Rattle.logical_dag.specs.DagMeaning.{in_order_opt, TreesGive}
+use Rattle.logical_dag.specs.DagMeaning.{in_order_opt, scan_rows, TreesGive}
 use Rattle.script_meaning.specs.Script.{Call, Side, Beside, inners, outer, Command, select, Statement}
 use Rattle.script_meaning.specs.Meaning.{Table, or_no_table, source_rows, keeps_left, keeps_right, nulls, outer_bag, result, results, places}
 use Rattle.script_meaning.specs.Bound.{parts_of}
@@ -12,7 +12,7 @@ use Rattle.script_meaning.specs.Dag.{part_at, ScriptDag, dag_of, outs_of}
 
 -- the Dag gives these rows to its outputs, where its scans have those
 abbrev pub Gives : Operators → (ScanDecl → Bag) → ScriptDag → List Bag → Type 0
-Gives ops input d rows = TreesGive ops (map input d.scans) d.shared d.orders d.outputs rows
+Gives ops input d rows = TreesGive ops (map (scan_rows input) d.scans) d.shared d.orders d.outputs rows
 
 -- the results of a script's statements, and what its OUTPUTs are to write
 abbrev pub table_at : List Table → ℕ → Table
@@ -22,7 +22,7 @@ abbrev pub written_at : List Table → ℕ → Bag
 written_at done k = let A = table_at done k in in_order_opt A.order (places A.width) A.rows
 
 abbrev pub results_of : Operators → (ScanDecl → Bag) → List Statement → List Table
-results_of ops input script = results ops input [] [] script
+results_of ops input script = results ops (scan_rows input) [] [] script
 
 abbrev pub meaning : Operators → (ScanDecl → Bag) → List Statement → List Bag
 meaning ops input script = map (written_at (results_of ops input script)) (outs_of script)
@@ -47,11 +47,15 @@ abbrev pub IsCommandTold : Operators → (ScanDecl → Bag) → List Statement �
 IsCommandTold ops input earlier done (select q) = IsBesideTold ops input earlier done (source_rows input earlier done q.source) q.beside
 IsCommandTold ops input earlier done c = Unit {0}
 
--- so it is for each outer join of a script
+-- so it is for each outer join of these statements
 abbrev pub AreOuterTold : Operators → (ScanDecl → Bag) → List Statement → List Table → List Statement → Type 0
 AreOuterTold ops input earlier done [] = Unit {0}
 AreOuterTold ops input earlier done (s ∷ rest) =
     IsCommandTold ops input earlier done s.command × AreOuterTold ops input (earlier ++ s ∷ []) (done ++ result ops input earlier done s.command ∷ []) rest
+
+-- and of a script
+abbrev pub AreTold : Operators → (ScanDecl → Bag) → List Statement → Type 0
+AreTold ops input script = AreOuterTold ops (scan_rows input) [] [] script
 
 -- no tree numbers more than 128 columns
 abbrev pub FitsColumns : List Statement → Type 0
@@ -59,7 +63,7 @@ FitsColumns script = (k : ℕ) → (part_at (parts_of script) k).count ≤ 128
 
 -- the Dag of a script gives what the script means
 abbrev pub GivesMeaning : Type 0
-GivesMeaning = (ops : Operators) (input : ScanDecl → Bag) (script : List Statement) → FitsColumns script → AreOuterTold ops input [] [] script
+GivesMeaning = (ops : Operators) (input : ScanDecl → Bag) (script : List Statement) → FitsColumns script → AreTold ops input script
     → Gives ops input (dag_of script) (meaning ops input script)
 
 -- over any rows and columns, the Combine of an outer join gives the outer join

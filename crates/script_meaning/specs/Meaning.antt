@@ -9,6 +9,7 @@ use Rattle.script_trees.specs.declared.agg.AggKind.{AggKind}
 use Rattle.scope_expr.specs.declared.expr.Expr.{Expr}
 use Rattle.scope_expr.specs.Value.{holds}
 use Rattle.logical_dag.specs.declared.dag.ScanDecl.{ScanDecl}
+use Rattle.logical_dag.specs.declared.dag.Stored.{Stored}
 use Rattle.user_ops.specs.Told.{Operators, processes_at, reduces_at, combines_at}
 use Rattle.logical_trees.specs.Rows.{Row, Bag, projected, agree_on, with_key, keys_among, group_keys, whole_value, first_rows, in_order, order_of, left_columns, right_columns, keys_of_both}
 use Rattle.column_ranks.specs.RowLemmas.{values}
@@ -83,6 +84,11 @@ top_opt (Some n) order A = table A.width (first_rows (record { n = n; order = or
 
 abbrev pub with_order : Option (List (ℕ × Dir)) → Table → Table
 with_order order A = record { width = A.width; order = order; rows = A.rows }
+
+-- an ORDER BY has no effect on a stored OUTPUT
+abbrev pub unless_stored : Option Stored → Option (List (ℕ × Dir)) → Option (List (ℕ × Dir))
+unless_stored None order = order
+unless_stored (Some stored) order = None
 
 -- the result of an input among those of the statements before
 abbrev pub or_no_table : Option Table → Table
@@ -171,7 +177,7 @@ result ops input earlier done (process source call) = process_rows ops call (sou
 result ops input earlier done (reduce source on presort call) = reduce_rows ops on presort call (source_rows input earlier done source)
 result ops input earlier done (combine source before other after on call) =
     combine_rows ops on before after call (source_rows input earlier done source) (source_rows input earlier done other)
-result ops input earlier done (output source stream) = result_at done (input_at earlier source)
+result ops input earlier done (output source stream stored) = let A = result_at done (input_at earlier source) in with_order (unless_stored stored A.order) A
 
 -- the results of all statements
 abbrev pub results : Operators → (ScanDecl → Bag) → List Statement → List Table → List Statement → List Table

@@ -6,22 +6,25 @@ use Rattle.script_trees.specs.declared.agg.AggKind.{AggKind}
 use Rattle.scope_expr.specs.declared.expr.Expr.{Expr}
 use Rattle.logical_trees.specs.declared.agg.Agg.{Agg}
 use Rattle.logical_dag.specs.declared.dag.ScanDecl.{ScanDecl}
+use Rattle.logical_dag.specs.declared.dag.Stored.{Stored}
 use Rattle.logical_trees.specs.declared.logic_op.LogicOp.{LogicOp}
 use Rattle.logical_trees.specs.declared.logic_op.LogicOp.TheVariants.{Scan, Ref, Filter, Project, Join, Group, Process, Reduce, Combine, Top}
 use Rattle.logical_trees.specs.Tree.{Expression, leaf, one, two}
 use Rattle.logical_trees.specs.declared.args.CallArgs.{CallArgs}
 use Rattle.scope_expr.specs.Moved.{moved}
 use Rattle.script_meaning.specs.Script.{Call, Grouping, Query}
-use Rattle.script_meaning.specs.Meaning.{key_places, order_list}
+use Rattle.script_meaning.specs.Meaning.{key_places, order_list, unless_stored}
 
 -- A bound expression, before it is known where it will stand. `tree name s c` is the tree where shared results have these
 -- names, its scans are numbered from s in post-order and its columns from c in post-order. `cols` are the columns of its
--- rows, by place, where the numbers begin at 0; `count` is how many columns it numbers; `scans` are its scans and `refs`
--- the statements whose shared results it refers to.
+-- rows, by place, where the numbers begin at 0; `count` is how many columns it numbers; `order` is the ORDER BY of its
+-- statement and `stored` how an OUTPUT stores it, both by place; `scans` are its scans and `refs` the statements whose
+-- shared results it refers to.
 pub record Part : Type 0 where
   pub cols : List ℕ
   pub count : ℕ
   pub order : Option (List (ℕ × Dir))
+  pub stored : Option Stored
   pub scans : List ScanDecl
   pub refs : List ℕ
   pub tree : (ℕ → ℕ) → ℕ → ℕ → Expression
@@ -40,6 +43,7 @@ nothing = record {
   cols = [];
   count = 0;
   order = None;
+  stored = None;
   scans = [];
   refs = [];
   tree = λ name s c. one (Top (record { n = 0; order = [] })) (leaf (Ref 0 []));
@@ -50,6 +54,7 @@ scanned d = record {
   cols = range_with_len 0 (length d.schema);
   count = length d.schema;
   order = None;
+  stored = None;
   scans = d ∷ [];
   refs = [];
   tree = λ name s c. leaf (Scan s (range_with_len c (length d.schema)));
@@ -60,6 +65,7 @@ referred k b = record {
   cols = range_with_len 0 (length b.cols);
   count = length b.cols;
   order = b.order;
+  stored = None;
   scans = [];
   refs = k ∷ [];
   tree = λ name s c. leaf (Ref (name k) (range_with_len c (length b.cols)));
@@ -67,10 +73,10 @@ referred k b = record {
 
 -- a node over the part
 abbrev pub over : Part → List ℕ → ℕ → (ℕ → LogicOp) → Part
-over a cols count op = record { cols = cols; count = count; order = None; scans = a.scans; refs = a.refs; tree = λ name s c. one (op c) (a.tree name s c) }
+over a cols count op = record { cols = cols; count = count; order = None; stored = None; scans = a.scans; refs = a.refs; tree = λ name s c. one (op c) (a.tree name s c) }
 
 abbrev pub same_part : Part → Part
-same_part a = record { cols = a.cols; count = a.count; order = None; scans = a.scans; refs = a.refs; tree = a.tree }
+same_part a = record { cols = a.cols; count = a.count; order = None; stored = None; scans = a.scans; refs = a.refs; tree = a.tree }
 
 abbrev pub join_on : Part → Part → List (ℕ × ℕ) → ℕ → LogicOp
 join_on a b on c = Join (record { items = map (λ p. (number a c p.0, number b (c + a.count) p.1)) on })
@@ -81,6 +87,7 @@ joined_part on a b = record {
   cols = a.cols ++ map (λ p. a.count + p) b.cols;
   count = a.count + b.count;
   order = None;
+  stored = None;
   scans = a.scans ++ b.scans;
   refs = a.refs ++ b.refs;
   tree = λ name s c. two (join_on a b on c) (a.tree name s c) (b.tree name (s + length a.scans) (c + a.count));
@@ -110,6 +117,7 @@ combine_part on before after call a b = record {
   cols = range_with_len (a.count + b.count) (length call.output);
   count = a.count + b.count + length call.output;
   order = None;
+  stored = None;
   scans = a.scans ++ b.scans;
   refs = a.refs ++ b.refs;
   tree = λ name s c. two (combine_on a b on before after call c) (a.tree name s c) (b.tree name (s + length a.scans) (c + a.count));
@@ -154,10 +162,18 @@ first_opt None order a = a
 first_opt (Some n) order a = over a a.cols a.count (λ c. Top (record { n = n; order = map (λ k. (number a c k.0, k.1)) order }))
 
 abbrev pub ordered : Option (List (ℕ × Dir)) → Part → Part
-ordered order a = record { cols = a.cols; count = a.count; order = order; scans = a.scans; refs = a.refs; tree = a.tree }
+ordered order a = record { cols = a.cols; count = a.count; order = order; stored = None; scans = a.scans; refs = a.refs; tree = a.tree }
 
 -- the node of a SELECT over its sources
 abbrev pub query_part : Query → Part → Part
 query_part q a =
     ordered q.order
     (first_opt q.top (order_list q.order) (unique_opt q.distinct (filter_opt q.having (project_part q.items (grouping_opt q.group (filter_opt q.test a))))))
+
+-- a declaration by place, in columns
+abbrev pub stored_at : (ℕ → ℕ) → Option Stored → Option Stored
+stored_at f = option_map (λ s. record { hash = map f s.hash; sorted = order_at f s.sorted })
+
+-- the part as an OUTPUT stores it
+abbrev pub stored_part : Option Stored → Part → Part
+stored_part stored a = record a { order = unless_stored stored a.order; stored = stored }

@@ -4,10 +4,11 @@ use Rattle.col_sets.specs.declared.dir.Dir.{Dir}
 use Rattle.script_trees.specs.declared.agg.AggKind.{AggKind}
 use Rattle.scope_expr.specs.declared.expr.Expr.{Expr}
 use Rattle.scope_expr.specs.Kinds.{EachColumn}
+use Rattle.logical_dag.specs.declared.dag.Stored.{Stored}
 use Rattle.script_meaning.specs.Script.{Source, from_result, from_stream, Joined, Beside, inners, outer, Grouping, Query, Command, extract, select, process, reduce, combine, output, Statement, input_at}
 use Rattle.script_meaning.specs.Meaning.{order_list}
 use Rattle.script_meaning.specs.Part.{Part, joined_part, filter_opt, grouping_opt, project_part, unique_opt}
-use Rattle.script_meaning.specs.Bound.{source_part, beside_part, bound, mentions}
+use Rattle.script_meaning.specs.Bound.{placed, source_part, beside_part, bound, mentions}
 
 -- each column is one of the first n
 abbrev pub IsBelow : ℕ → Expr → Type 0
@@ -41,6 +42,11 @@ abbrev pub IsPresortBelow : ℕ → Option (List (ℕ × Dir)) → Type 0
 IsPresortBelow n None = Unit {0}
 IsPresortBelow n (Some order) = IsOrderBelow n order
 
+-- what rows are declared to be stored by are places
+abbrev pub IsStoredBelow : ℕ → Option Stored → Type 0
+IsStoredBelow n None = Unit {0}
+IsStoredBelow n (Some s) = ArePlaces n s.hash × IsPresortBelow n s.sorted
+
 abbrev pub ArePairs : ℕ → ℕ → List (ℕ × ℕ) → Type 0
 ArePairs m n [] = Unit {0}
 ArePairs m n (p ∷ on) = (p.0 < m) × (p.1 < n) × ArePairs m n on
@@ -63,7 +69,7 @@ IsInputThere earlier env i = IsSomeAnd (input_at earlier i) (λ k. k < length en
 
 abbrev pub IsSourceThere : List Statement → List Part → Source → Type 0
 IsSourceThere earlier env (from_result i) = IsInputThere earlier env i
-IsSourceThere earlier env (from_stream d) = Unit {0}
+IsSourceThere earlier env (from_stream d) = IsStoredBelow (length d.schema) d.stored
 
 abbrev pub AreJoinsPlaced : List ℕ → List Statement → List Part → Part → List Joined → Type 0
 AreJoinsPlaced all earlier env a [] = Unit {0}
@@ -76,7 +82,7 @@ IsBesidePlaced all earlier env a (inners joins) = AreJoinsPlaced all earlier env
 IsBesidePlaced all earlier env a (outer side call j) = IsSourceThere earlier env j.source × IsOn a (source_part all earlier env j.source) j.on
 
 abbrev pub IsCommandPlaced : List ℕ → List Statement → List Part → Command → Type 0
-IsCommandPlaced all earlier env (extract d) = Unit {0}
+IsCommandPlaced all earlier env (extract d) = IsStoredBelow (length d.schema) d.stored
 IsCommandPlaced all earlier env (select q) =
     IsSourceThere earlier env q.source × IsBesidePlaced all earlier env (source_part all earlier env q.source) q.beside
     × IsQueryPlaced q (beside_part all earlier env (source_part all earlier env q.source) q.beside)
@@ -86,7 +92,7 @@ IsCommandPlaced all earlier env (reduce source on presort call) =
 IsCommandPlaced all earlier env (combine source before other after on call) =
     IsSourceThere earlier env source × IsSourceThere earlier env other × IsOn (source_part all earlier env source) (source_part all earlier env other) on
     × IsPresortBelow (length (source_part all earlier env source).cols) before × IsPresortBelow (length (source_part all earlier env other).cols) after
-IsCommandPlaced all earlier env (output source stream) = IsInputThere earlier env source
+IsCommandPlaced all earlier env (output source stream stored) = IsInputThere earlier env source × IsStoredBelow (length (placed all env (input_at earlier source)).cols) stored
 
 abbrev pub ArePlaced : List ℕ → List Statement → List Part → List Statement → Type 0
 ArePlaced all earlier env [] = Unit {0}
