@@ -1,4 +1,4 @@
-pub mod Digits
 pub mod Fronts
 pub mod KnownTexts
+pub mod Parsed
 pub mod Reading

@@ -3,7 +3,7 @@ ghost use Rattle.std.specs.Prelude.{◌≡◌, ◌++◌, IfOk, IfSome, OnOk, OnE
 ghost use Rattle.scope_value.specs.Fits.{Fits};
 ghost use Rattle.row_codec.specs.Fields.{field_value, field_text, reads_null, truth};
 
-use crate::number::signed_of;
+use crate::number::{int_of, long_of};
 use itoa::Buffer;
 use scope_value::{Cell, ColType, Value};
 use std::alloc::{AllocError, Global};
@@ -21,8 +21,8 @@ pub fn read_field(alloc: Global, kind: ColType, field: &[u8]) -> Result<Option<V
         return Ok(Some(Value::Null));
     }
     match kind {
-        ColType::Int => Ok(signed_of(field, 1 << 31).map(Value::Int)),
-        ColType::Long => Ok(signed_of(field, 1 << 63).map(Value::Int)),
+        ColType::Int => Ok(int_of(field).map(|number| Value::Int(i64::from(number)))),
+        ColType::Long => Ok(long_of(field).map(Value::Int)),
         ColType::Bool => Ok(truth_of(field).map(Value::Bool)),
         ColType::Text => Ok(Some(Value::Bytes(Cell::from_slice(alloc, field)?))),
     }
