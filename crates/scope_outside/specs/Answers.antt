@@ -1,5 +1,5 @@
 -- What a store's answers mean.
-use Rattle.std.specs.Prelude.{◌≡◌, ◌≢◌, ℕ, ◌≤◌, Bool, true, false, List, Option, Some, None}
+use Rattle.std.specs.Prelude.{◌≡◌, ◌≢◌, ℕ, ◌≤◌, Bool, true, false, List, [], Option, Some, None}
 use Rattle.std.specs.FinMap as map
 use Rattle.scope_outside.specs.State.{StoreState, Files, Rose, OnFiles}
 use Rattle.scope_outside.specs.declared.answer.ReadAnswer.{ReadAnswer}
@@ -26,7 +26,7 @@ abbrev pub AfterRead : ReadAnswer → List ℕ → List ℕ → StoreState → S
 AfterRead read.Done name more old new = (new ≡ old) × OnFiles old (λ m. map.get m name ≡ Some more)
 AfterRead read.Missing name more old new = IsMiss name old new × (new.files ≡ old.files) × OnFiles old (λ m. map.get m name ≡ None)
 AfterRead read.Failed name more old new = IsFault name false old new × (new.files ≡ old.files) × OnFiles old (λ m. map.get m name ≢ None)
-AfterRead read.NoMemory name more old new = new ≡ old
+AfterRead read.NoMemory name more old new = (new ≡ old) × (more ≡ [])
 
 -- the files are told as they were, but for what stands under the name
 abbrev pub IsOpenAt : List ℕ → Option Files → Option Files → Type 0

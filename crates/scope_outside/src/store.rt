@@ -15,9 +15,9 @@ pub trait Store {
 
     /// Reads the content of a name, and appends it to `out`.
     ///
-    /// The map stays as it is, whatever the answer. `Done`: the whole content was appended. At every other answer `out` keeps what it
-    /// held and may have more bytes after it. `Missing`: the count of misses rose; where the map is told, this comes exactly where the
-    /// name isn't in it. `Failed`: the count of faults rose. `NoMemory`: memory was refused, and all that the store tells is as before.
+    /// The map stays as it is, whatever the answer. `Done`: the whole content was appended. `Missing`: the count of misses rose; where the
+    /// map is told, this comes exactly where the name isn't in it. `Failed`: the count of faults rose. At these two `out` keeps what it
+    /// held and may have more bytes after it. `NoMemory`: memory was refused, and all that the store tells is as before, and `out` too.
     fn read(&mut self, name: &[u8], out: &mut Vec<u8>) -> ReadAnswer
         ensures { (more : List ℕ) × (out.new.items ≡ out.old.items ++ more) × AfterRead result name.now more (told self.old) (told self.new) };
 

@@ -12,9 +12,10 @@ use std::rt::Files;
 // The longest file that is read, in bytes.
 const MOST_BYTES: u64 = 1 << 32;
 
-/// Appends what the file at the path holds.
+/// Appends what the file at the path holds. Where memory is refused, what was read before that is taken back.
 pub(crate) fn read_file<R: Files>(runtime: &R, name: &[u8], out: &mut Vec<u8>) -> ReadAnswer
     ensures appends { (more : List ℕ) × (out.new.items ≡ out.old.items ++ more) }
+    ensures memory { result ≡ ReadAnswer.NoMemory → out.new.items ≡ out.old.items }
     ensures text_alone { ¬ (IsUtf8 name.now) → result ≡ ReadAnswer.Failed }
 {
     let Ok(path) = str::from_utf8(name) else {
@@ -24,9 +25,13 @@ pub(crate) fn read_file<R: Files>(runtime: &R, name: &[u8], out: &mut Vec<u8>) -
         Ok(file) => file,
         Err(error) => return unopened(&error),
     };
+    let held = out.len();
     match read_all(file, out) {
         Ok(()) => ReadAnswer::Done,
-        Err(error) if error.kind() == ErrorKind::OutOfMemory => ReadAnswer::NoMemory,
+        Err(error) if error.kind() == ErrorKind::OutOfMemory => {
+            out.truncate(held);
+            ReadAnswer::NoMemory
+        }
         Err(_) => ReadAnswer::Failed,
     }
 }
