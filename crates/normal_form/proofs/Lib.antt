@@ -1,0 +1,4 @@
+mod DagLemmas
+mod EachLemmas
+mod NodeLemmas
+mod SinkLemmas
