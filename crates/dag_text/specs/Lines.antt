@@ -1,5 +1,5 @@
 -- The text of a Dag, line by line.
-use Rattle.std.specs.Prelude.{ℕ, ◌+◌, List, [], ◌∷◌, ◌++◌, map, Option, codes, decimal}
+use Rattle.std.specs.Prelude.{ℕ, ◌+◌, List, [], ◌∷◌, ◌++◌, map, Option, Some, None, codes, decimal}
 use Rattle.std.specs.List.{join_with_byte}
 use Rattle.col_sets.specs.declared.dir.Dir.{Dir}
 use Rattle.scope_expr.specs.declared.expr.Expr.{Expr}
@@ -14,8 +14,9 @@ use Rattle.logical_trees.specs.Numbers.{child_numbers}
 use Rattle.logical_dag.specs.declared.dag.ScanDecl.{ScanDecl}
 use Rattle.logical_dag.specs.declared.dag.Output.{Output}
 use Rattle.logical_dag.specs.declared.dag.Dag.{Dag}
+use Rattle.logical_dag.specs.declared.dag.Stored.{Stored}
 use Rattle.logical_dag.specs.Scripts.{top_of}
-use Rattle.dag_text.specs.Pieces.{called_text, columns_text, order_text, presort_text, pairs_text, schema_text, quoted, expression_text, items_text, aggregates_text, written_text}
+use Rattle.dag_text.specs.Pieces.{called_text, columns_text, order_text, presort_text, stored_text, pairs_text, schema_text, quoted, expression_text, items_text, aggregates_text, written_text}
 
 -- the texts of things that are numbered one after the other, from a number on
 abbrev pub lines : {X : Type 0} → (ℕ → X → List ℕ) → ℕ → List X → List ℕ
@@ -97,15 +98,22 @@ tree_text t = lines node_line 0 (nodes t)
 abbrev pub stream_text : List ℕ → ℕ → List ℕ → List ℕ
 stream_text word i name = word ++ decimal i ++ codes " " ++ quoted name
 
+-- how a stream is stored, where it is declared
+abbrev pub declared_text : Option Stored → List ℕ
+declared_text None = []
+declared_text (Some s) = stored_text s.hash s.sorted
+
 abbrev pub scan_line : ℕ → ScanDecl → List ℕ
-scan_line i s = stream_text (codes "scan ") i s.stream ++ (codes " op " ++ called_text s.op s.args) ++ (codes " cols " ++ schema_text s.schema) ++ codes "\n"
+scan_line i s =
+    stream_text (codes "scan ") i s.stream ++ (codes " op " ++ called_text s.op s.args) ++ (codes " cols " ++ schema_text s.schema) ++ declared_text s.stored ++ codes "\n"
 
 -- a shared tree behind its line
 abbrev pub shared_lines : ℕ → Logical → List ℕ
 shared_lines i t = codes "shared " ++ decimal i ++ codes "\n" ++ tree_text (tree_of t)
 
 abbrev pub output_line : ℕ → Output → List ℕ
-output_line i o = stream_text (codes "output ") i o.name ++ (codes " delimiter " ++ decimal o.delimiter) ++ (codes " order " ++ presort_text o.order) ++ codes "\n"
+output_line i o =
+    stream_text (codes "output ") i o.name ++ (codes " delimiter " ++ decimal o.delimiter) ++ (codes " order " ++ presort_text o.order) ++ declared_text o.stored ++ codes "\n"
 
 -- an output's tree behind its line
 abbrev pub output_lines : ℕ → Output → List ℕ

@@ -2,12 +2,13 @@
 ghost use Rattle.std.specs.Prelude.{◌≡◌, ◌++◌, OnOk, OnErr, IfOk, codes, decimal};
 ghost use Rattle.dag_text.specs.Lines as spec;
 ghost use Rattle.dag_text.specs.Lines.{lines};
-ghost use Rattle.dag_text.specs.Pieces.{schema_text};
+ghost use Rattle.dag_text.specs.Pieces.{schema_text, stored_text};
 
 use crate::list::{write_called, write_joined, write_presort};
+use crate::operator::write_key;
 use crate::piece::{write_number, write_quoted};
 use crate::tree::write_tree;
-use logical_dag::{Dag, Logical, Output, ScanDecl};
+use logical_dag::{Dag, Logical, Output, ScanDecl, Stored};
 use scope_value::Column;
 use std::alloc::{AllocError, Global};
 
@@ -29,6 +30,24 @@ fn write_schema(schema: &[Column], out: &mut Vec<u8>) -> Result<(), AllocError>
     write_joined(schema, b',', out)
 }
 
+// Writes how a stream is stored.
+fn write_stored(stored: &Stored, out: &mut Vec<u8>) -> Result<(), AllocError>
+    ensures { OnOk result (out.new.items ≡ out.old.items ++ stored_text stored.now.hash stored.now.sorted) }
+{
+    write_key(b" stored hash ", stored.hash, out)?;
+    write_presort(b" sorted ", stored.sorted, out)
+}
+
+// Writes how a stream is stored, where it is declared.
+fn write_declared(stored: &Option<Stored>, out: &mut Vec<u8>) -> Result<(), AllocError>
+    ensures { OnOk result (out.new.items ≡ out.old.items ++ spec.declared_text stored.now) }
+{
+    match stored {
+        Some(stored) => write_stored(stored, out),
+        None => Ok(()),
+    }
+}
+
 // Writes the line of a scan.
 fn write_scan(number: u64, scan: &ScanDecl, out: &mut Vec<u8>) -> Result<(), AllocError>
     ensures { OnOk result (out.new.items ≡ out.old.items ++ spec.scan_line number scan.now) }
@@ -36,6 +55,7 @@ fn write_scan(number: u64, scan: &ScanDecl, out: &mut Vec<u8>) -> Result<(), All
     write_stream(b"scan ", number, scan.stream.as_slice(), out)?;
     write_called(b" op ", scan.op, scan.args.as_slice(), out)?;
     write_schema(scan.schema.as_slice(), out)?;
+    write_declared(&scan.stored, out)?;
     out.extend_from_slice(b"\n")
 }
 
@@ -64,6 +84,7 @@ fn write_output_line(number: u64, output: &Output, out: &mut Vec<u8>) -> Result<
     write_stream(b"output ", number, output.name.as_slice(), out)?;
     write_delimiter(output.delimiter, out)?;
     write_presort(b" order ", output.order, out)?;
+    write_declared(&output.stored, out)?;
     out.extend_from_slice(b"\n")
 }
 

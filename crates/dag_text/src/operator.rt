@@ -58,7 +58,7 @@ fn write_pairs(
 }
 
 // Writes a key, in its order, behind a word.
-fn write_key(word: &[u8], key: KeyCols, out: &mut Vec<u8>) -> Result<(), AllocError>
+pub(crate) fn write_key(word: &[u8], key: KeyCols, out: &mut Vec<u8>) -> Result<(), AllocError>
     ensures { OnOk result (out.new.items ≡ out.old.items ++ (word.now ++ columns_text key)) }
 {
     out.extend_from_slice(word)?;

@@ -6,7 +6,6 @@ use Rattle.std.proofs.lemmas.List.{map-append}
 use Rattle.std.proofs.lemmas.List.Elements.{All-nil, All-cons, All-head, All-tail, All-map}
 use Rattle.std.proofs.lemmas.Option.{slice_get-map}
 use Rattle.col_sets.specs.declared.dir.Dir.{Dir}
-use Rattle.col_sets.specs.Sets.{count}
 use Rattle.user_ops.specs.Told.{Operators}
 use Rattle.logical_trees.specs.declared.logical.Logical.{Logical}
 use Rattle.logical_trees.specs.Tree.{Expression, tree_of, columns_of}
@@ -15,9 +14,10 @@ use Rattle.logical_trees.specs.Formed.{IsOrderOver}
 use Rattle.logical_dag.specs.declared.dag.ScanDecl.{ScanDecl}
 use Rattle.logical_dag.specs.declared.dag.Output.{Output}
 use Rattle.logical_dag.specs.declared.dag.Dag.{Dag}
+use Rattle.logical_dag.specs.declared.dag.Stored.{Stored}
 use Rattle.logical_dag.specs.Bounds.{AreBounded}
-use Rattle.logical_dag.specs.Scripts.{shared_trees, output_trees, all_trees, scans_of, IsWritten, IsBindable}
-use Rattle.logical_dag.specs.DagMeaning.{orders_of, TreesGive}
+use Rattle.logical_dag.specs.Scripts.{shared_trees, output_trees, all_trees, scans_of, IsWritten, IsStoredOver, IsScanOver, IsBindable}
+use Rattle.logical_dag.specs.DagMeaning.{orders_of, scan_rows, TreesGive}
 use Rattle.logical_dag.proofs.Placed.{formed_more}
 use Rattle.normal_meaning.specs.Sinking.{normal}
 use Rattle.normal_meaning.specs.Normal.{IsNormal}
@@ -86,6 +86,7 @@ normal_of old new h = record {
   names = each_same (λ (o : Output). o.name) (λ (o : Output). o.name) (λ o p k. k.name) old.outputs new.outputs h.made;
   delimiters = each_same (λ (o : Output). o.delimiter) (λ (o : Output). o.delimiter) (λ o p k. k.delimiter) old.outputs new.outputs h.made;
   orders = each_same (λ (o : Output). o.order) (λ (o : Output). o.order) (λ o p k. k.order) old.outputs new.outputs h.made;
+  stored = each_same (λ (o : Output). o.stored) (λ (o : Output). o.stored) (λ o p k. k.stored) old.outputs new.outputs h.made;
 }
 
 -- the bounds are kept
@@ -103,15 +104,19 @@ all_normal old new h =
 
 -- ---- it is one that binding can give
 
--- the columns of the output's order are there
+-- the columns by which the output is ordered or stored are there
+abbrev IsOver : List ℕ → Option (List (ℕ × Dir)) → Option Stored → Type 0
+IsOver cols order stored = IsOrderOver cols (order_of order) × IsStoredOver cols stored × IfSome stored (λ s. order ≡ None)
+
 abbrev IsOrdered : Output → Type 0
-IsOrdered o = IsOrderOver (columns_of (tree_of o.tree)) (order_of o.order)
+IsOrdered o = IsOver (columns_of (tree_of o.tree)) o.order o.stored
 
 ordered : (o p : Output) → IsOutputOf o p → IsOrdered o → IsOrdered p
 ordered o p h k =
     let cols = ap columns_of h.tree ∙ columns_normal (tree_of o.tree) in
-    subst (λ (xs : List ℕ). IsOrderOver xs (order_of p.order)) (sym cols)
-    (subst (λ (r : Option (List (ℕ × Dir))). IsOrderOver (columns_of (tree_of o.tree)) (order_of r)) (sym h.order) k)
+    subst (λ (xs : List ℕ). IsOver xs p.order p.stored) (sym cols)
+    (subst (λ (r : Option (List (ℕ × Dir))). IsOver (columns_of (tree_of o.tree)) r p.stored) (sym h.order)
+    (subst (IsOver (columns_of (tree_of o.tree)) o.order) (sym h.stored) k))
 
 all_ordered : (os ps : List Output) → AreOutputsOf os ps → All IsOrdered os → All IsOrdered ps
 all_ordered [] [] h k = All-nil IsOrdered
@@ -133,9 +138,9 @@ earlier_normal ts h i = go (slice_get ts i) refl
 written_all : (results : List (List ℕ)) (ts : List Expression) → All (IsWritten results) ts → All (IsWritten results) (map normal ts)
 written_all results ts h = All-map (IsWritten results) normal ts (λ k d l. written_normal results (slice_index_or ts k d) (h k d l))
 
--- a scan has as many columns as its schema
+-- a scan is over the columns of its node
 abbrev HasSchema : List ScanDecl → ℕ × List ℕ → Type 0
-HasSchema scans q = IsSomeAnd (slice_get scans q.0) (λ scan. length scan.schema ≡ count q.1)
+HasSchema scans q = IsSomeAnd (slice_get scans q.0) (IsScanOver q.1)
 
 -- the same scans
 scans_kept : (old new : Dag) → IsNormalOf old new → flat_map scans_of (all_trees new) ≡ flat_map scans_of (all_trees old)
@@ -149,8 +154,8 @@ bindable_of old new m b = let h = normal_of old new m in let same = scans_kept o
       (subst (λ (results : List (List ℕ)). All (IsWritten results) (map normal (output_trees old))) (sym (columns_all (shared_trees old)))
       (written_all (map columns_of (shared_trees old)) (output_trees old) b.outputs)));
   scans = ap (map (λ (s : ℕ × List ℕ). s.0)) same ∙ b.scans ∙ ap (λ (scans : List ScanDecl). range_with_len 0 (length scans)) (sym h.scans);
-  schemas = subst (λ (scans : List ScanDecl). All (HasSchema scans) (flat_map scans_of (all_trees new))) (sym h.scans) (subst (All (HasSchema old.scans)) (sym same) b.schemas);
-  orders = all_ordered old.outputs new.outputs m.made b.orders;
+  declared = subst (λ (scans : List ScanDecl). All (HasSchema scans) (flat_map scans_of (all_trees new))) (sym h.scans) (subst (All (HasSchema old.scans)) (sym same) b.declared);
+  over = all_ordered old.outputs new.outputs m.made b.over;
 }
 
 -- ---- it gives the same rows
@@ -172,7 +177,7 @@ there ops s s' t t' r r' u u' rows a b c d h = rw (a, b, c, d) h
 
 -- the Dag as the laws on scripts see it
 abbrev script_dag : Dag → ScriptDag
-script_dag dag = record { scans = dag.scans; shared = shared_trees dag; streams = []; orders = orders_of dag; outputs = output_trees dag }
+script_dag dag = record { scans = dag.scans; shared = shared_trees dag; streams = []; orders = orders_of dag; stored = map (λ (o : Output). o.stored) dag.outputs; outputs = output_trees dag }
 
 kept : (old : Dag) (ops : Operators) (input : ScanDecl → Bag) (rows : List Bag) → IsBindable old → Gives ops input (script_dag old) rows ↔ Gives ops input (normal_dag (script_dag old)) rows
 kept old ops input rows b =
@@ -183,10 +188,10 @@ kept old ops input rows b =
 
 pub gives_same : (old new : Dag) → IsNormalOf old new → IsBindable old → GivesSame old new
 gives_same old new h b ops input rows =
-    let scans : map input new.scans ≡ map input old.scans = ap (map input) h.scans in (
-      λ g. there ops (map input old.scans) (map input new.scans) (map normal (shared_trees old)) (shared_trees new) (orders_of old) (orders_of new) (map normal (output_trees old)) (output_trees new) rows
+    let scans : map (scan_rows input) new.scans ≡ map (scan_rows input) old.scans = ap (map (scan_rows input)) h.scans in (
+      λ g. there ops (map (scan_rows input) old.scans) (map (scan_rows input) new.scans) (map normal (shared_trees old)) (shared_trees new) (orders_of old) (orders_of new) (map normal (output_trees old)) (output_trees new) rows
           scans h.shared h.orders h.outputs ((kept old ops input rows b).0 g),
       λ g. (kept old ops input rows b).1
-          (there ops (map input new.scans) (map input old.scans) (shared_trees new) (map normal (shared_trees old)) (orders_of new) (orders_of old) (output_trees new) (map normal (output_trees old)) rows
+          (there ops (map (scan_rows input) new.scans) (map (scan_rows input) old.scans) (shared_trees new) (map normal (shared_trees old)) (orders_of new) (orders_of old) (output_trees new) (map normal (output_trees old)) rows
           (sym scans) (sym h.shared) (sym h.orders) (sym h.outputs) g),
     )

@@ -1,5 +1,5 @@
 -- Which Dag is the normal form of another, and what it keeps.
-use Rattle.std.specs.Prelude.{◌≡◌, ◌↔◌, ℕ, List, map, All}
+use Rattle.std.specs.Prelude.{◌≡◌, ◌↔◌, ℕ, List, map, Option, All}
 use Rattle.std.specs.List.{AllZip}
 use Rattle.user_ops.specs.Told.{Operators}
 use Rattle.logical_trees.specs.Tree.{tree_of}
@@ -7,6 +7,7 @@ use Rattle.logical_trees.specs.Rows.{Bag}
 use Rattle.logical_dag.specs.declared.dag.ScanDecl.{ScanDecl}
 use Rattle.logical_dag.specs.declared.dag.Output.{Output}
 use Rattle.logical_dag.specs.declared.dag.Dag.{Dag}
+use Rattle.logical_dag.specs.declared.dag.Stored.{Stored}
 use Rattle.logical_dag.specs.Scripts.{shared_trees, output_trees, all_trees}
 use Rattle.logical_dag.specs.DagMeaning.{orders_of, DagGives}
 use Rattle.normal_meaning.specs.Sinking.{normal}
@@ -20,6 +21,10 @@ names_of outputs = map (λ o. o.name) outputs
 abbrev pub delimiters_of : List Output → List ℕ
 delimiters_of outputs = map (λ o. o.delimiter) outputs
 
+-- how they are to be stored
+abbrev pub stored_of : List Output → List (Option Stored)
+stored_of outputs = map (λ o. o.stored) outputs
+
 -- each tree is in its normal form, and all else is as it was
 pub record IsNormalOf (old new : Dag) : Type 0 where
   pub scans : new.scans ≡ old.scans
@@ -28,6 +33,7 @@ pub record IsNormalOf (old new : Dag) : Type 0 where
   pub names : names_of new.outputs ≡ names_of old.outputs
   pub delimiters : delimiters_of new.outputs ≡ delimiters_of old.outputs
   pub orders : orders_of new ≡ orders_of old
+  pub stored : stored_of new.outputs ≡ stored_of old.outputs
 
 -- both give the outputs the same rows, whatever the operators and the rows of the scans
 abbrev pub GivesSame : Dag → Dag → Type 0
@@ -42,6 +48,7 @@ pub record IsOutputOf (old new : Output) : Type 0 where
   pub name : new.name ≡ old.name
   pub delimiter : new.delimiter ≡ old.delimiter
   pub order : new.order ≡ old.order
+  pub stored : new.stored ≡ old.stored
   pub tree : tree_of new.tree ≡ normal (tree_of old.tree)
 
 -- so does each, place by place

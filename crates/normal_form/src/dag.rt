@@ -32,6 +32,7 @@ fn normal_output(alloc: Global, output: Output) -> Result<Output, AllocError>
         name,
         delimiter,
         order,
+        stored,
         tree,
     } = output;
     let (name, tree) = beside(name, normal_tree(alloc, tree))?;
@@ -39,6 +40,7 @@ fn normal_output(alloc: Global, output: Output) -> Result<Output, AllocError>
         name,
         delimiter,
         order,
+        stored,
         tree,
     })
 }
