@@ -1,5 +1,5 @@
 // Each row of one group with each of another.
-ghost use Rattle.std.specs.Prelude.{◌≡◌, ◌++◌, IfOk, OnOk, OnErr};
+ghost use Rattle.std.specs.Prelude.{◌≡◌, ◌++◌, flat_map, IfOk, OnOk, OnErr};
 ghost use Rattle.user_ops.specs.Appends.{AddsSome};
 ghost use Rattle.scope_shipped.specs.InnerPairs.{inner_pairs, pairs_of};
 ghost use Rattle.scope_shipped.specs.Lawful.{inner_pairs-lawful};
@@ -50,6 +50,22 @@ fn push_pairs(
     Ok(())
 }
 
+// Adds each left row followed by each right row, left order first.
+fn push_each_pair(
+    alloc: Global,
+    left: &[Row],
+    right: &[Row],
+    out: &mut Vec<Row>,
+) -> Result<(), AllocError>
+    ensures ok { OnOk result (out.new.items ≡ out.old.items ++ flat_map (pairs_of right.now) left.now) }
+    ensures err { OnErr result (AddsSome out.old.items out.new.items (flat_map (pairs_of right.now) left.now)) }
+{
+    for row in left {
+        push_pairs(alloc, row, right, out)?;
+    }
+    Ok(())
+}
+
 impl Combiner for InnerPairs {
     ghost told_combiner = { λ _. inner_pairs };
 
@@ -68,9 +84,6 @@ impl Combiner for InnerPairs {
         right: &[Row],
         out: &mut Vec<Row>,
     ) -> Result<(), AllocError> {
-        for row in left {
-            push_pairs(alloc, row, right, out)?;
-        }
-        Ok(())
+        push_each_pair(alloc, left, right, out)
     }
 }

@@ -5,6 +5,7 @@
 #![tactic(auto)]
 
 mod inner_pairs;
+mod laws;
 mod log_extractor;
 mod multi_set_difference;
 mod refusals;
@@ -15,6 +16,7 @@ mod text_extractor;
 mod top_queries;
 
 pub use inner_pairs::InnerPairs;
+pub use laws::{extractors_law, operators_law};
 pub use log_extractor::LogExtractor;
 pub use multi_set_difference::MultiSetDifference;
 pub use split_words::SplitWords;

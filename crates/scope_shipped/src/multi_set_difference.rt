@@ -1,7 +1,8 @@
 // The rows of one group that another doesn't have as often.
-ghost use Rattle.std.specs.Prelude.{◌≡◌, ◌≤◌, ℕ, IfOk, List, OnOk};
+ghost use Rattle.std.specs.Prelude.{◌≡◌, ◌++◌, ◌≤◌, ℕ, IfOk, List, OnOk, OnErr};
+ghost use Rattle.user_ops.specs.Appends.{AddsSome};
 ghost use Rattle.scope_value.specs.declared.value.Value.{Value as Held};
-ghost use Rattle.scope_shipped.specs.MultiSetDifference.{multi_set_difference, copies};
+ghost use Rattle.scope_shipped.specs.MultiSetDifference.{multi_set_difference, copies, last_copies};
 ghost use Rattle.scope_shipped.specs.RowCounts.{count_in};
 ghost use Rattle.scope_shipped.specs.Lawful.{multi_set_difference-lawful};
 
@@ -27,6 +28,25 @@ fn counted(alloc: Global, rows: &[Row]) -> Result<RowCounts, AllocError>
     Ok(counts)
 }
 
+// Adds the left rows that are left over when as many copies of each as right has are taken, the first ones before others.
+fn push_difference(
+    alloc: Global,
+    left: &[Row],
+    right: &[Row],
+    out: &mut Vec<Row>,
+) -> Result<(), AllocError>
+    ensures ok { OnOk result (out.new.items ≡ out.old.items ++ last_copies left.now right.now left.now) }
+    ensures err { OnErr result (AddsSome out.old.items out.new.items (last_copies left.now right.now left.now)) }
+{
+    let mut unmatched = counted(alloc, right)?;
+    for row in left {
+        if !unmatched.take(row) {
+            out.push(row.copy()?)?;
+        }
+    }
+    Ok(())
+}
+
 impl Combiner for MultiSetDifference {
     ghost told_combiner = { λ _. multi_set_difference };
 
@@ -47,12 +67,6 @@ impl Combiner for MultiSetDifference {
         right: &[Row],
         out: &mut Vec<Row>,
     ) -> Result<(), AllocError> {
-        let mut unmatched = counted(alloc, right)?;
-        for row in left {
-            if !unmatched.take(row) {
-                out.push(row.copy()?)?;
-            }
-        }
-        Ok(())
+        push_difference(alloc, left, right, out)
     }
 }

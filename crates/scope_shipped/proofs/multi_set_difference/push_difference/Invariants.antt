@@ -3,7 +3,7 @@ use Rattle.scope_value.specs.declared.value.Value.{Value}
 use Rattle.user_ops.specs.Adding.{IsAdding}
 use Rattle.scope_shipped.specs.MultiSetDifference.{copies, last_copies}
 use Rattle.scope_shipped.specs.RowCounts.{count_in}
-use Rattle.scope_shipped.proofs.multi_set_difference.MultiSetDifferenceCombiner.combine.Given as goal
+use Rattle.scope_shipped.proofs.multi_set_difference.push_difference.Given as goal
 
 abbrev pub invariant-loop-row : goal.invariant-loop-row
 invariant-loop-row l = record {

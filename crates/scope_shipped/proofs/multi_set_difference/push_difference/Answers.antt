@@ -2,8 +2,8 @@ use Rattle.std.proofs.Common.{[], ◌∷◌, ◌∙◌, sym, ap, nat_lt, rules}
 use Rattle.user_ops.specs.Adding.{IsAdding-more, IsAdding-left, AddsSome-from_adding}
 use Rattle.scope_shipped.proofs.Differences.{count-taken, row-kept, row-dropped}
 use Rattle.scope_shipped.proofs.Exits.{on_err}
-use Rattle.scope_shipped.proofs.multi_set_difference.MultiSetDifferenceCombiner.combine.Goals as goal
-use Rattle.scope_shipped.proofs.multi_set_difference.MultiSetDifferenceCombiner.combine.Goals.{then-not-take+in_ok-copy+in_ok-push, else-not-take}
+use Rattle.scope_shipped.proofs.multi_set_difference.push_difference.Goals as goal
+use Rattle.scope_shipped.proofs.multi_set_difference.push_difference.Goals.{then-not-take+in_ok-copy+in_ok-push, else-not-take}
 
 pub returns-in_err-copy-clause-err : goal.returns-in_err-copy-clause-err
 returns-in_err-copy-clause-err c = on_err _ _ (AddsSome-from_adding _ _ _ _ c.loop-row.invariant.adding)

@@ -2,7 +2,7 @@ use Rattle.std.proofs.Common.{drop}
 use Rattle.std.specs.List.{flat_map}
 use Rattle.user_ops.specs.Adding.{IsAdding}
 use Rattle.scope_shipped.specs.InnerPairs.{pairs_of}
-use Rattle.scope_shipped.proofs.inner_pairs.InnerPairsCombiner.combine.Given as goal
+use Rattle.scope_shipped.proofs.inner_pairs.push_each_pair.Given as goal
 
 abbrev pub invariant-loop-row : goal.invariant-loop-row
 invariant-loop-row l =

@@ -5,7 +5,7 @@ use Rattle.scope_value.specs.declared.value.Value.{Value}
 use Rattle.user_ops.specs.Adding.{IsAdding-left, AddsSome-from_part}
 use Rattle.scope_shipped.specs.InnerPairs.{pairs_of}
 use Rattle.scope_shipped.proofs.Exits.{on_err}
-use Rattle.scope_shipped.proofs.inner_pairs.InnerPairsCombiner.combine.Goals as goal
+use Rattle.scope_shipped.proofs.inner_pairs.push_each_pair.Goals as goal
 
 -- the pairs of the next left row come first
 next_pairs : (right left : List (List Value)) (i : ℕ) (l : List Value) → i < length left → l ≡ get_or left i l
