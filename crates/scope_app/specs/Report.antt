@@ -22,13 +22,17 @@ abbrev pub place_line : ScriptPlace → List ℕ
 place_line (Lex f) = codes "scope: no token at byte " ++ decimal f.at
 place_line (Syntax f) = codes "scope: statement " ++ (decimal f.statement ++ codes " is outside the grammar")
 
+-- the line of a refused record
+abbrev pub row_line : List ℕ → ℕ → ℕ → List ℕ
+row_line name part at = codes "scope: " ++ (name ++ (codes ": part " ++ (decimal part ++ (codes ": record " ++ decimal at))))
+
 -- the line on standard error, without its end
 abbrev pub line_of : Status → List ℕ
 line_of status.Done = []
 line_of status.NoMemory = codes "scope: out of memory"
 line_of (status.ReadFault name) = codes "scope: cannot read " ++ name
 line_of (status.NoStream name) = codes "scope: no stream " ++ name
-line_of (status.RowFault name part at) = (codes "scope: " ++ name) ++ ((codes ": part " ++ decimal part) ++ (codes ": record " ++ decimal at))
+line_of (status.RowFault name part at) = row_line name part at
 line_of (status.WriteFault name) = codes "scope: cannot write " ++ name
 line_of status.NotText = codes "scope: script is not UTF-8"
 line_of (status.ScriptFault place) = place_line place

@@ -1,6 +1,6 @@
 // What is said of a status: its number, and its line on standard error.
-ghost use Rattle.std.specs.Prelude.{◌≡◌, ◌++◌, OnOk};
-ghost use Rattle.scope_app.specs.Report.{number_of, line_of, place_line};
+ghost use Rattle.std.specs.Prelude.{◌≡◌, ◌++◌, flat_map, OnOk, OnErr};
+ghost use Rattle.scope_app.specs.Report.{number_of, line_of, place_line, row_line};
 ghost use Rattle.std.specs.Fmt.{decimal};
 
 use crate::status::{ScriptPlace, Status};
@@ -24,52 +24,80 @@ pub fn status_number(status: &Status) -> u32
     }
 }
 
-/// Appends the status's line, without a line end; nothing where all was done. An error is want of memory: then a part of the line may
-/// have been appended.
+/// Appends the status's line, without a line end; nothing where all was done. An error is want of memory, and appends nothing.
 pub fn status_line(status: &Status, out: &mut Vec<u8>) -> Result<(), AllocError>
-    ensures { OnOk result (out.new.items ≡ out.old.items ++ line_of status.now) }
+    ensures ok { OnOk result (out.new.items ≡ out.old.items ++ line_of status.now) }
+    ensures err { OnErr result (out.new.items ≡ out.old.items) }
 {
     match status {
         Status::Done => Ok(()),
         Status::NoMemory => out.extend_from_slice(b"scope: out of memory"),
-        Status::ReadFault(name) => named(b"scope: cannot read ", name.as_slice(), out),
-        Status::NoStream(name) => named(b"scope: no stream ", name.as_slice(), out),
+        Status::ReadFault(name) => append_all(&[b"scope: cannot read ", name.as_slice()], out),
+        Status::NoStream(name) => append_all(&[b"scope: no stream ", name.as_slice()], out),
         Status::NotText => out.extend_from_slice(b"scope: script is not UTF-8"),
         Status::ScriptFault(place) => script_line(*place, out),
-        Status::RowFault { name, part, at } => {
-            named(b"scope: ", name.as_slice(), out)?;
-            numbered(b": part ", u64::from(*part), out)?;
-            numbered(b": record ", *at, out)
-        }
-        Status::WriteFault(name) => named(b"scope: cannot write ", name.as_slice(), out),
+        Status::RowFault { name, part, at } => record_line(name.as_slice(), *part, *at, out),
+        Status::WriteFault(name) => append_all(&[b"scope: cannot write ", name.as_slice()], out),
         Status::NotBuilt => out.extend_from_slice(b"scope: not built"),
     }
 }
 
+// Appends the line of a script outside the language.
 fn script_line(place: ScriptPlace, out: &mut Vec<u8>) -> Result<(), AllocError>
-    ensures { OnOk result (out.new.items ≡ out.old.items ++ place_line place) }
+    ensures ok { OnOk result (out.new.items ≡ out.old.items ++ place_line place) }
+    ensures err { OnErr result (out.new.items ≡ out.old.items) }
 {
+    let mut number = Buffer::new();
     match place {
-        ScriptPlace::Lex(fault) => numbered(b"scope: no token at byte ", u64::from(fault.at), out),
-        ScriptPlace::Syntax(fault) => {
-            numbered(b"scope: statement ", u64::from(fault.statement), out)?;
-            out.extend_from_slice(b" is outside the grammar")
-        }
+        ScriptPlace::Lex(fault) => append_all(
+            &[
+                b"scope: no token at byte ",
+                number.format(u64::from(fault.at)).as_bytes(),
+            ],
+            out,
+        ),
+        ScriptPlace::Syntax(fault) => append_all(
+            &[
+                b"scope: statement ",
+                number.format(u64::from(fault.statement)).as_bytes(),
+                b" is outside the grammar",
+            ],
+            out,
+        ),
     }
 }
 
-fn named(before: &[u8], name: &[u8], out: &mut Vec<u8>) -> Result<(), AllocError>
-    ensures { OnOk result (out.new.items ≡ out.old.items ++ (before.now ++ name.now)) }
+// Appends the line of a refused record.
+fn record_line(name: &[u8], part: u32, at: u64, out: &mut Vec<u8>) -> Result<(), AllocError>
+    ensures ok { OnOk result (out.new.items ≡ out.old.items ++ row_line name.now part at) }
+    ensures err { OnErr result (out.new.items ≡ out.old.items) }
 {
-    out.extend_from_slice(before)?;
-    out.extend_from_slice(name)?;
-    Ok(())
+    let mut part_number = Buffer::new();
+    let mut number = Buffer::new();
+    append_all(
+        &[
+            b"scope: ",
+            name,
+            b": part ",
+            part_number.format(u64::from(part)).as_bytes(),
+            b": record ",
+            number.format(at).as_bytes(),
+        ],
+        out,
+    )
 }
 
-fn numbered(before: &[u8], number: u64, out: &mut Vec<u8>) -> Result<(), AllocError>
-    ensures { OnOk result (out.new.items ≡ out.old.items ++ (before.now ++ decimal number)) }
+// Appends the pieces one after the other, or nothing where memory is refused.
+fn append_all(pieces: &[&[u8]], out: &mut Vec<u8>) -> Result<(), AllocError>
+    ensures ok { OnOk result (out.new.items ≡ out.old.items ++ flat_map (λ piece. piece.now) pieces.now) }
+    ensures err { OnErr result (out.new.items ≡ out.old.items) }
 {
-    out.extend_from_slice(before)?;
-    out.extend_from_slice(Buffer::new().format(number).as_bytes())?;
+    let held = out.len();
+    for piece in pieces {
+        if out.extend_from_slice(piece).is_err() {
+            out.truncate(held);
+            return Err(AllocError);
+        }
+    }
     Ok(())
 }
