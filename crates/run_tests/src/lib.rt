@@ -8,6 +8,8 @@ mod marking;
 #[cfg(test)]
 mod operators;
 #[cfg(test)]
+mod outer;
+#[cfg(test)]
 mod shipped;
 #[cfg(test)]
 mod silent;

@@ -11,12 +11,12 @@ use user_ops::{AddFault, Combiner, Extractor, OpSet, Processor, Reducer};
 
 // A column of a schema.
 #[derive(Clone, Copy)]
-struct Named<'a> {
+pub(crate) struct Named<'a> {
     name: &'a [u8],
     kind: ColType,
 }
 
-const WORD: Named<'static> = Named {
+pub(crate) const WORD: Named<'static> = Named {
     name: b"word",
     kind: ColType::Text,
 };
@@ -26,7 +26,7 @@ const TIMES: Named<'static> = Named {
     kind: ColType::Int,
 };
 
-const FLAG: Named<'static> = Named {
+pub(crate) const FLAG: Named<'static> = Named {
     name: b"flag",
     kind: ColType::Bool,
 };
@@ -41,7 +41,7 @@ const CLICKS: Named<'static> = Named {
     kind: ColType::Int,
 };
 
-fn schema(alloc: Global, columns: &[Named]) -> Result<Schema, AllocError> {
+pub(crate) fn schema(alloc: Global, columns: &[Named]) -> Result<Schema, AllocError> {
     let mut schema = Schema::new(alloc);
     for column in columns {
         let name = Cell::from_slice(alloc, column.name)?;
@@ -53,7 +53,7 @@ fn schema(alloc: Global, columns: &[Named]) -> Result<Schema, AllocError> {
     Ok(schema)
 }
 
-fn cells(alloc: Global, texts: &[&[u8]]) -> Result<Vec<Cell>, AllocError> {
+pub(crate) fn cells(alloc: Global, texts: &[&[u8]]) -> Result<Vec<Cell>, AllocError> {
     let mut cells = Vec::new(alloc);
     for text in texts {
         cells.push(Cell::from_slice(alloc, text)?)?;
@@ -62,7 +62,7 @@ fn cells(alloc: Global, texts: &[&[u8]]) -> Result<Vec<Cell>, AllocError> {
 }
 
 // Rows of a word and its times, read from text.
-fn rows(alloc: Global, text: &[u8]) -> Result<Vec<Row>, AllocError> {
+pub(crate) fn rows(alloc: Global, text: &[u8]) -> Result<Vec<Row>, AllocError> {
     match read_part(
         alloc,
         text,
@@ -75,7 +75,7 @@ fn rows(alloc: Global, text: &[u8]) -> Result<Vec<Row>, AllocError> {
     }
 }
 
-fn written(alloc: Global, rows: &[Row]) -> Result<Vec<u8>, AllocError> {
+pub(crate) fn written(alloc: Global, rows: &[Row]) -> Result<Vec<u8>, AllocError> {
     let mut text = Vec::new(alloc);
     write_rows(alloc, rows, b',', &mut text)?;
     Ok(text)

@@ -81,14 +81,14 @@ fn run_over_files<R: Files>(
     } = boxes;
     let mut ops = OpSet::new(alloc);
     // Each answer is dropped before the next call, so that no two boxes that were handed back are alive at once.
-    let has_log = ops.add_extractor(log_name, log).is_ok();
-    let has_text = ops.add_extractor(text_name, text).is_ok();
-    let has_split = ops.add_processor(split_name, split).is_ok();
-    let has_top = ops.add_reducer(top_name, top).is_ok();
-    let has_difference = ops.add_combiner(difference_name, difference).is_ok();
-    let has_pairs = ops.add_combiner(pairs_name, pairs).is_ok();
+    let has_log = ops.add_extractor(log_name, log).ok().is_some();
+    let has_text = ops.add_extractor(text_name, text).ok().is_some();
+    let has_split = ops.add_processor(split_name, split).ok().is_some();
+    let has_top = ops.add_reducer(top_name, top).ok().is_some();
+    let has_difference = ops.add_combiner(difference_name, difference).ok().is_some();
+    let has_pairs = ops.add_combiner(pairs_name, pairs).ok().is_some();
     // No name stands twice, so that a refusal is want of memory.
-    if has_log && has_text && has_split && has_top && has_difference && has_pairs {
+    if has_log & has_text & has_split & has_top & has_difference & has_pairs {
         call(rt, alloc, words, &ops)
     } else {
         Status::NoMemory

@@ -1,5 +1,5 @@
 -- The Combine of an outer join gives the outer join.
-use Rattle.std.proofs.Common.{◌≡◌, ℕ, Bool, true, false, cond, List, [], ◌∷◌, ◌++◌, map, filter, flat_map, refl, sym, ap, ap₂, ◌∙◌, append-nil, subst, IsPermutation}
+use Rattle.std.proofs.Common.{◌≡◌, ◌<◌, ◌^◌, ℕ, Bool, true, false, cond, List, [], ◌∷◌, ◌++◌, map, filter, flat_map, refl, sym, ap, ap₂, ◌∙◌, append-nil, subst, length, IsPermutation}
 use Rattle.std.specs.List.{list_any}
 use Rattle.std.specs.Ordering.{eq_by_cmp}
 use Rattle.std.proofs.lemmas.List.Folds.{list_any-append}
@@ -13,10 +13,14 @@ use Rattle.logical_trees.specs.Rows.{Row, Bag, agree_on, with_key, in_order, lef
 use Rattle.list_lemmas.specs.Bags.{same_permuted, along_permutation, flat_map_permuted, flat_map_each}
 use Rattle.list_lemmas.specs.Distinct.{is_row, row_is, row_turned, row_itself}
 use Rattle.list_lemmas.specs.Sorting.{sorted_moved}
-use Rattle.script_meaning.specs.Script.{Side}
-use Rattle.script_meaning.specs.Meaning.{keeps_left, keeps_right, nulls, agreeing, lone_left, lone_right, outer_bag}
-use Rattle.user_ops.specs.Told.{combines_at}
-use Rattle.script_meaning.specs.Laws.{outer_pairs, GivesOuterJoin}
+use Rattle.user_ops.specs.Told.{Operators, ToldCombiner, given_by, combines_at}
+use Rattle.outer_joins.specs.declared.side.Side.{Side}
+use Rattle.outer_joins.specs.OuterPairs.{keeps_left, keeps_right, nulls, outer_pairs}
+use Rattle.outer_joins.specs.Combiners.{outer_told}
+use Rattle.outer_joins.specs.Laws.{width_args}
+use Rattle.outer_joins.proofs.WidthLemmas.{gives_outer_pairs}
+use Rattle.script_meaning.specs.Meaning.{agreeing, lone_left, lone_right, outer_bag}
+use Rattle.script_meaning.specs.Laws.{GivesOuterJoin, TellsOuter, GivesToldJoin, AreToldCalls}
 use Rattle.script_meaning.proofs.OuterLists.{loop_apart, is_nil, by_groups, key_there, padded, lone_rows}
 
 -- ---- what the combiner gives of two groups, in one line
@@ -182,3 +186,24 @@ module _ (on : List (ℕ × ℕ)) (left right : List ℕ) (A B : Bag) where
 
 pub gives_outer_join : GivesOuterJoin
 gives_outer_join ops side call on left right m n A B told = outer_is on left right A B side m n (combines_at ops call.op call.args) told
+
+-- ---- the combiners of outer_joins
+
+told_pairs : (ops : Operators) (side : Side) (place : ℕ) (args : List (List ℕ)) (m n : ℕ) → TellsOuter ops place side → args ≡ width_args m n → m < 2 ^ 64 → n < 2 ^ 64
+    → (C D : Bag) → combines_at ops place args C D ≡ outer_pairs side m n C D
+told_pairs ops side place args m n tells are small few C D =
+    ap (given_by (λ (c : ToldCombiner). c.combines args C D)) tells.there
+    ∙ ap (λ (gives : List (List ℕ) → Bag → Bag → Bag). gives args C D) tells.same
+    ∙ ap (λ (a : List (List ℕ)). (outer_told side).combines a C D) are
+    ∙ gives_outer_pairs side m n C D small few
+
+pub gives_told_join : GivesToldJoin
+gives_told_join ops side call on left right A B tells are small few =
+    gives_outer_join ops side call on left right (length left) (length right) A B
+    (told_pairs ops side call.op call.args (length left) (length right) tells are small few)
+
+pub are_told_calls : AreToldCalls
+are_told_calls ops side call m n tells are columns small few = record {
+  columns = columns;
+  gives = told_pairs ops side call.op call.args m n tells are small few;
+}

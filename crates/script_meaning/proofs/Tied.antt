@@ -25,7 +25,8 @@ use Rattle.column_ranks.specs.Rising.{IsRising}
 use Rattle.column_ranks.specs.RisingLemmas.{rising_range, rank_at, rank_shift}
 use Rattle.list_lemmas.specs.Bags.{same_permuted}
 use Rattle.column_ranks.specs.RowLemmas.{holds_moved, projected_moved, items_moved, agree_moved, values, merged_values}
-use Rattle.script_meaning.specs.Script.{Call, Side, Grouping, Query}
+use Rattle.outer_joins.specs.declared.side.Side.{Side}
+use Rattle.script_meaning.specs.Script.{Call, Grouping, Query}
 use Rattle.script_meaning.specs.Meaning.{places, Table, table, no_table, where_rows, where_opt, join_rows, key_places, group_rows, group_opt, item_rows, distinct_opt, order_list, top_opt, outer_rows, process_rows, reduce_rows, combine_rows, query_rows, with_order, unless_stored}
 use Rattle.script_meaning.specs.Part.{Part, cols_at, number, nothing, scanned, referred, over, join_on, joined_part, call_at, order_at, process_part, reduce_part, combine_on, combine_part, filter_opt, numbered, group_part, listed, grouping_opt, project_part, unique_opt, first_opt, query_part, stored_part}
 use Rattle.script_meaning.specs.Laws.{IsOuterCall}

@@ -14,8 +14,9 @@ use Rattle.logical_dag.specs.declared.dag.Stored.{Stored}
 use Rattle.logical_trees.specs.declared.logic_op.LogicOp.TheVariants.{Scan, Ref, Filter, Project, Join, Group, Top}
 use Rattle.logical_trees.specs.Tree.{leaf, one, two}
 use Rattle.logical_trees.specs.Rows.{Bag, agree_on}
-use Rattle.script_meaning.specs.Script.{from_result, from_stream, left_side, right_side, full_side, inners, Query, extract, select, output, Statement}
+use Rattle.script_meaning.specs.Script.{from_result, from_stream, inners, Query, extract, select, output, Statement}
 use Rattle.script_meaning.specs.Meaning.{places, outer_bag}
+use Rattle.outer_joins.specs.declared.side.Side.TheVariants.{Left, Right, Full}
 use Rattle.script_meaning.specs.Dag.{dag_of}
 use Rattle.script_meaning.specs.Placed.{IsPlaced}
 use Rattle.script_meaning.specs.Laws.{FitsColumns}
@@ -150,7 +151,7 @@ pub record Rules : Type 0 where
             (two (Join (record { items = (0, 2) ∷ [] })) (leaf (Scan 0 (0 ∷ 1 ∷ []))) (leaf (Scan 1 (2 ∷ 3 ∷ [])))) ∷ [];
       }
   -- rows without a partner beside nulls
-  pub left : outer_bag left_side (agree_on ((0, 0) ∷ []) (places 2) (places 2)) 2 2 lefts rights ≡ row (1 ∷ 1 ∷ 1 ∷ 9 ∷ []) ∷ (Int (pos 2) ∷ Int (pos 2) ∷ Null ∷ Null ∷ []) ∷ []
-  pub right : outer_bag right_side (agree_on ((0, 0) ∷ []) (places 2) (places 2)) 2 2 lefts rights ≡ row (1 ∷ 1 ∷ 1 ∷ 9 ∷ []) ∷ (Null ∷ Null ∷ Int (pos 3) ∷ Int (pos 8) ∷ []) ∷ []
-  pub full : outer_bag full_side (agree_on ((0, 0) ∷ []) (places 2) (places 2)) 2 2 lefts rights
+  pub left : outer_bag Left (agree_on ((0, 0) ∷ []) (places 2) (places 2)) 2 2 lefts rights ≡ row (1 ∷ 1 ∷ 1 ∷ 9 ∷ []) ∷ (Int (pos 2) ∷ Int (pos 2) ∷ Null ∷ Null ∷ []) ∷ []
+  pub right : outer_bag Right (agree_on ((0, 0) ∷ []) (places 2) (places 2)) 2 2 lefts rights ≡ row (1 ∷ 1 ∷ 1 ∷ 9 ∷ []) ∷ (Null ∷ Null ∷ Int (pos 3) ∷ Int (pos 8) ∷ []) ∷ []
+  pub full : outer_bag Full (agree_on ((0, 0) ∷ []) (places 2) (places 2)) 2 2 lefts rights
       ≡ row (1 ∷ 1 ∷ 1 ∷ 9 ∷ []) ∷ (Int (pos 2) ∷ Int (pos 2) ∷ Null ∷ Null ∷ []) ∷ (Null ∷ Null ∷ Int (pos 3) ∷ Int (pos 8) ∷ []) ∷ []

@@ -1,12 +1,16 @@
 -- What the Dag of a script gives, and that it is what the script means.
-use Rattle.std.specs.Prelude.{◌≡◌, ◌≤◌, ◌+◌, ℕ, if◌then◌else◌, List, [], ◌∷◌, ◌++◌, map, flat_map, length, None, slice_get, IsPermutation}
-use Rattle.user_ops.specs.Told.{Operators, combines_at}
+use Rattle.std.specs.Prelude.{◌≡◌, ◌≤◌, ◌<◌, ◌+◌, ◌^◌, ℕ, List, [], ◌∷◌, ◌++◌, map, length, Some, None, slice_get, IsPermutation}
+use Rattle.user_ops.specs.Told.{Operators, ToldCombiner, combines_at}
+use Rattle.outer_joins.specs.declared.side.Side.{Side}
+use Rattle.outer_joins.specs.OuterPairs.{outer_pairs}
+use Rattle.outer_joins.specs.Combiners.{outer_told}
+use Rattle.outer_joins.specs.Laws.{width_args}
 use Rattle.logical_dag.specs.declared.dag.ScanDecl.{ScanDecl}
 use Rattle.logical_trees.specs.declared.args.CallArgs.{CallArgs}
 use Rattle.logical_trees.specs.Rows.{Bag, agree_on, combined}
 use Rattle.logical_dag.specs.DagMeaning.{in_order_opt, scan_rows, TreesGive}
-use Rattle.script_meaning.specs.Script.{Call, Side, Beside, inners, outer, Command, select, Statement}
-use Rattle.script_meaning.specs.Meaning.{Table, or_no_table, source_rows, keeps_left, keeps_right, nulls, outer_bag, result, results, places}
+use Rattle.script_meaning.specs.Script.{Call, Beside, inners, outer, Command, select, Statement}
+use Rattle.script_meaning.specs.Meaning.{Table, or_no_table, source_rows, outer_bag, result, results, places}
 use Rattle.script_meaning.specs.Bound.{parts_of}
 use Rattle.script_meaning.specs.Dag.{part_at, ScriptDag, dag_of, outs_of}
 
@@ -27,14 +31,7 @@ results_of ops input script = results ops (scan_rows input) [] [] script
 abbrev pub meaning : Operators → (ScanDecl → Bag) → List Statement → List Bag
 meaning ops input script = map (written_at (results_of ops input script)) (outs_of script)
 
--- what the combiner of an outer join gives for the rows of a key: with both sides present each left row followed by each
--- right row; where one is missing, the rows of the other, if that side is kept, beside as many nulls as the first has columns
-abbrev pub outer_pairs : Side → ℕ → ℕ → Bag → Bag → Bag
-outer_pairs side m n [] B = if keeps_right side then map (λ s. nulls m ++ s) B else []
-outer_pairs side m n (r ∷ A) [] = if keeps_left side then map (λ r. r ++ nulls n) (r ∷ A) else []
-outer_pairs side m n (r ∷ A) (s ∷ B) = flat_map (λ r. map (λ s. r ++ s) (s ∷ B)) (r ∷ A)
-
--- the combiner that is called for an outer join gives these, and the call has the columns of both sides
+-- the combiner that is called for an outer join gives its rows at each key, and the call has the columns of both sides
 pub record IsOuterCall (ops : Operators) (side : Side) (call : Call) (m n : ℕ) : Type 0 where
   pub columns : length call.output ≡ m + n
   pub gives : (A B : Bag) → combines_at ops call.op call.args A B ≡ outer_pairs side m n A B
@@ -71,3 +68,21 @@ abbrev pub GivesOuterJoin : Type 0
 GivesOuterJoin = (ops : Operators) (side : Side) (call : CallArgs) (on : List (ℕ × ℕ)) (left right : List ℕ) (m n : ℕ) (A B : Bag)
     → ((C D : Bag) → combines_at ops call.op call.args C D ≡ outer_pairs side m n C D)
     → IsPermutation (combined ops left right call on None None A B) (outer_bag side (agree_on on left right) m n A B)
+
+-- the object at that place tells the meaning of the combiner of that side
+pub record TellsOuter (ops : Operators) (place : ℕ) (side : Side) : Type 0 where
+  pub told : ToldCombiner
+  pub there : slice_get ops.combiners place ≡ Some told
+  pub same : told.combines ≡ (outer_told side).combines
+
+-- with such a combiner, and the numbers of columns as args, the Combine gives the outer join
+abbrev pub GivesToldJoin : Type 0
+GivesToldJoin = (ops : Operators) (side : Side) (call : CallArgs) (on : List (ℕ × ℕ)) (left right : List ℕ) (A B : Bag)
+    → TellsOuter ops call.op side → call.args ≡ width_args (length left) (length right) → length left < 2 ^ 64 → length right < 2 ^ 64
+    → IsPermutation (combined ops left right call on None None A B) (outer_bag side (agree_on on left right) (length left) (length right) A B)
+
+-- and a script's call of it is the call of an outer join
+abbrev pub AreToldCalls : Type 0
+AreToldCalls = (ops : Operators) (side : Side) (call : Call) (m n : ℕ)
+    → TellsOuter ops call.op side → call.args ≡ width_args m n → length call.output ≡ m + n → m < 2 ^ 64 → n < 2 ^ 64
+    → IsOuterCall ops side call m n

@@ -1,19 +1,20 @@
 -- What a script means, statement by statement: no tree, no sharing, no number of a column.
-use Rattle.std.specs.Prelude.{ℕ, ◌+◌, Bool, true, false, not, if◌then◌else◌, replicate, List, [], ◌∷◌, ◌++◌, map, filter, flat_map, length, Option, Some, None, slice_get}
+use Rattle.std.specs.Prelude.{ℕ, ◌+◌, Bool, true, false, not, if◌then◌else◌, List, [], ◌∷◌, ◌++◌, map, filter, flat_map, length, Option, Some, None, slice_get}
 use Rattle.std.specs.List.{range_with_len, list_any}
 use Rattle.col_sets.specs.declared.dir.Dir.{Dir}
 use Rattle.col_sets.specs.Sets.{has}
 use Rattle.scope_value.specs.declared.value.Value.{Value}
-use Rattle.scope_value.specs.declared.value.Value.TheVariants.{Null}
 use Rattle.script_trees.specs.declared.agg.AggKind.{AggKind}
 use Rattle.scope_expr.specs.declared.expr.Expr.{Expr}
 use Rattle.scope_expr.specs.Value.{holds}
 use Rattle.logical_dag.specs.declared.dag.ScanDecl.{ScanDecl}
 use Rattle.logical_dag.specs.declared.dag.Stored.{Stored}
 use Rattle.user_ops.specs.Told.{Operators, processes_at, reduces_at, combines_at}
+use Rattle.outer_joins.specs.declared.side.Side.{Side}
+use Rattle.outer_joins.specs.OuterPairs.{keeps_left, keeps_right, nulls}
 use Rattle.logical_trees.specs.Rows.{Row, Bag, projected, agree_on, with_key, keys_among, group_keys, whole_value, first_rows, in_order, order_of, left_columns, right_columns, keys_of_both}
 use Rattle.column_ranks.specs.RowLemmas.{values}
-use Rattle.script_meaning.specs.Script.{Source, from_result, from_stream, Call, Joined, Side, left_side, right_side, Beside, inners, outer, Grouping, Query, Command, extract, select, process, reduce, combine, output, Statement, input_at}
+use Rattle.script_meaning.specs.Script.{Source, from_result, from_stream, Call, Joined, Beside, inners, outer, Grouping, Query, Command, extract, select, process, reduce, combine, output, Statement, input_at}
 
 -- the columns by place
 abbrev pub places : ℕ → List ℕ
@@ -108,18 +109,6 @@ source_rows input earlier done (from_stream d) = table (length d.schema) (input 
 abbrev pub from_rows : (ScanDecl → Bag) → List Statement → List Table → Table → List Joined → Table
 from_rows input earlier done A [] = A
 from_rows input earlier done A (j ∷ more) = from_rows input earlier done (join_rows j.on A (source_rows input earlier done j.source)) more
-
--- the rows on that side are kept also without a partner
-abbrev pub keeps_left : Side → Bool
-keeps_left right_side = false
-keeps_left side = true
-
-abbrev pub keeps_right : Side → Bool
-keeps_right left_side = false
-keeps_right side = true
-
-abbrev pub nulls : ℕ → Row
-nulls n = replicate n Null
 
 -- the pairs of rows that agree; the rows of the left that agree with none of the right, followed by nulls; and those of the
 -- right that agree with none of the left, preceded by nulls

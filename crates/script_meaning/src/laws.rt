@@ -1,5 +1,5 @@
 // What the Dag of a script gives.
-ghost use Rattle.script_meaning.specs.Laws.{GivesMeaning, GivesOuterJoin};
+ghost use Rattle.script_meaning.specs.Laws.{GivesMeaning, GivesOuterJoin, GivesToldJoin, AreToldCalls};
 ghost use Rattle.script_meaning.specs.Written.{GivesBindable};
 ghost use Rattle.script_meaning.specs.OneMeaning.{GivesOne, GivesSome, GivesMeaningAlone};
 ghost use Rattle.script_meaning.specs.Examples.{Rules};
@@ -13,6 +13,14 @@ pub fn meaning_law()
 /// A Combine on the equalities of an outer join, with its combiner, gives the outer join.
 pub fn outer_law()
     ensures { GivesOuterJoin }
+{}
+
+/// Where the operator that is called tells the meaning of a combiner of outer_joins, and the args are the numbers of columns, the
+/// Combine gives the outer join: all pairs of rows that agree, and each row without a partner, of a side that is kept, once beside
+/// nulls. Null keys agree. So a script's call of it is the call of an outer join.
+pub fn told_law()
+    ensures join { GivesToldJoin }
+    ensures call { AreToldCalls }
 {}
 
 /// The Dag of a script that names what is there is one that binding can give.

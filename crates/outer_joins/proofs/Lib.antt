@@ -1,0 +1,3 @@
+pub mod FitRules
+pub mod PairLemmas
+pub mod WidthLemmas

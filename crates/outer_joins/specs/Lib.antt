@@ -1,0 +1,5 @@
+pub mod Combiners
+pub mod Laws
+pub mod Lawful
+pub mod OuterPairs
+pub mod Widths
