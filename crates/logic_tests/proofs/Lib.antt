@@ -1,3 +1,4 @@
 mod TallFormed
+mod TextBounds
 mod WorkedBindable
 mod WorkedFormed

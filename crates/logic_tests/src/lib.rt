@@ -2,6 +2,8 @@
 #![tactic(auto)]
 
 #[cfg(test)]
+mod blocks;
+#[cfg(test)]
 mod facts;
 #[cfg(test)]
 mod making;
@@ -14,6 +16,10 @@ mod operators;
 #[cfg(test)]
 mod scripts;
 #[cfg(test)]
+mod sinking;
+#[cfg(test)]
 mod tall;
+#[cfg(test)]
+mod texts;
 #[cfg(test)]
 mod trees;

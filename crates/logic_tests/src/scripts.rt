@@ -1,10 +1,9 @@
 // Scripts of one output.
 ghost use Rattle.std.specs.Prelude.{◌≡◌, [], ◌∷◌, map, flat_map, length, slice_get, None, IfOk, IsSomeAnd, All};
 ghost use Rattle.std.specs.List.{range_with_len};
-ghost use Rattle.col_sets.specs.Sets.{count};
 ghost use Rattle.logical_trees.specs.Tree.{tree_of};
 ghost use Rattle.logical_dag.specs.Bounds.{AreBounded};
-ghost use Rattle.logical_dag.specs.Scripts.{scans_of, IsWritten, IsBindable};
+ghost use Rattle.logical_dag.specs.Scripts.{scans_of, IsWritten, IsScanOver, IsBindable};
 
 use crate::trees::{counted, three_joined};
 use logical_dag::{Dag, Logical, Output, ScanDecl};
@@ -14,7 +13,8 @@ use std::alloc::{AllocError, Global};
 
 // A stream of that many columns of numbers.
 fn numbers(alloc: Global, columns: u32) -> Result<ScanDecl, AllocError>
-    ensures { IfOk result (λ scan. length scan.schema ≡ columns) }
+    ensures columns { IfOk result (λ scan. length scan.schema ≡ columns) }
+    ensures stored { IfOk result (λ scan. scan.stored ≡ None) }
 {
     let mut schema = Schema::new(alloc);
     for _ in 0..columns {
@@ -28,18 +28,21 @@ fn numbers(alloc: Global, columns: u32) -> Result<ScanDecl, AllocError>
         op: 0,
         args: Items::new(alloc),
         schema,
+        stored: None,
     })
 }
 
-// The rows as an output.
-fn rows_out(alloc: Global, tree: Logical) -> Result<Output, AllocError>
+/// The rows as an output.
+pub fn rows_out(alloc: Global, tree: Logical) -> Result<Output, AllocError>
     ensures tree { IfOk result (λ o. tree_of o.tree ≡ tree_of tree) }
     ensures order { IfOk result (λ o. o.order ≡ None) }
+    ensures stored { IfOk result (λ o. o.stored ≡ None) }
 {
     Ok(Output {
         name: Cell::from_slice(alloc, b"out")?,
         delimiter: b',',
         order: None,
+        stored: None,
         tree,
     })
 }
@@ -49,7 +52,7 @@ fn script_of(alloc: Global, scans: Items<ScanDecl>, tree: Logical) -> Result<Dag
     requires bounds { AreBounded (length scans) [] (tree_of tree ∷ []) }
     requires written { IsWritten [] (tree_of tree) }
     requires scans { map (λ s. s.0) (flat_map scans_of (tree_of tree ∷ [])) ≡ range_with_len 0 (length scans) }
-    requires schemas { All (λ s. IsSomeAnd (slice_get scans s.0) (λ scan. length scan.schema ≡ count s.1)) (flat_map scans_of (tree_of tree ∷ [])) }
+    requires declared { All (λ s. IsSomeAnd (slice_get scans s.0) (IsScanOver s.1)) (flat_map scans_of (tree_of tree ∷ [])) }
     ensures { IfOk result IsBindable }
 {
     let mut outputs = Items::new(alloc);

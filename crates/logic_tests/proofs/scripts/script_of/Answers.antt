@@ -8,4 +8,4 @@ returns c =
     let output = c.in_ok-rows_out.field-0 in
     written-bindable _ output (tree_of c.args.tree) c.new.ensures
     (c.in_ok-push.ensures.ok ∙ ap (λ outputs. outputs ++ output ∷ []) c.new-outputs.ensures)
-    c.in_ok-rows_out.ensures.tree c.in_ok-rows_out.ensures.order c.requires.written c.requires.scans c.requires.schemas
+    c.in_ok-rows_out.ensures.tree c.in_ok-rows_out.ensures.order c.in_ok-rows_out.ensures.stored c.requires.written c.requires.scans c.requires.declared
