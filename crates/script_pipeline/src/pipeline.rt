@@ -173,8 +173,7 @@ fn extraction_of(statement: &Statement) -> Option<Extraction<'_>>
             stream,
             call,
             stored: None,
-        }
-            if cols.len() <= MAX_COLUMNS && have_distinct_names(cols.as_slice()) => {
+        } if cols.len() <= MAX_COLUMNS && have_distinct_names(cols.as_slice()) => {
             Some(Extraction {
                 name,
                 columns: cols.as_slice(),

@@ -136,10 +136,7 @@ fn grammar_tells_scripts(rt: HostRuntime) -> Result<(), Fail> {
         ("OUTPUT TO \"o\" STORED HASH(a) SORTED(a) HASH(a)", 1),
         ("OUTPUT TO \"o\" stored(a)", 1),
         ("SELECT a; OUTPUT STORED HASH(a) TO \"o\"", 2),
-        (
-            "PROCESS x USING P PRODUCE a STORED HASH(a)",
-            1,
-        ),
+        ("PROCESS x USING P PRODUCE a STORED HASH(a)", 1),
         ("SELECT * FROM t LEFT JOIN u", 1),
         ("SELECT * FROM t LEFT u ON a == b", 1),
         ("SELECT * FROM t OUTER JOIN u ON a == b", 1),
@@ -147,18 +144,12 @@ fn grammar_tells_scripts(rt: HostRuntime) -> Result<(), Fail> {
         ("SELECT * FROM t INNER LEFT JOIN u ON a == b", 1),
         ("SELECT * FROM t LEFT RIGHT JOIN u ON a == b", 1),
         ("SELECT * FROM t FULL OUTER OUTER JOIN u ON a == b", 1),
-        (
-            "SELECT * FROM t LEFT JOIN u ON a == b JOIN v ON b == c",
-            1,
-        ),
+        ("SELECT * FROM t LEFT JOIN u ON a == b JOIN v ON b == c", 1),
         (
             "SELECT * FROM t LEFT JOIN u ON a == b LEFT JOIN v ON b == c",
             1,
         ),
-        (
-            "SELECT * FROM t JOIN u ON a == b FULL JOIN v ON b == c",
-            1,
-        ),
+        ("SELECT * FROM t JOIN u ON a == b FULL JOIN v ON b == c", 1),
         ("SELECT * LEFT JOIN u ON a == b", 1),
         ("OUTPUT x TO o", 1),
         ("SELECT a FROM t;; ; SELECT", 2),

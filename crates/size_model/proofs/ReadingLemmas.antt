@@ -1,10 +1,10 @@
 -- How far the records of a sizes file were read, and what one more gives.
-use Rattle.std.proofs.Common.{◌≡◌, ◌+◌, ◌++◌, ◌&&◌, ℕ, Bool, true, false, cond, List, [], ◌∷◌, length, Option, Some, None, refl, sym, ap, ◌∙◌, arith, subst, append_assoc, append-nil, length-append, if◌then◌else◌}
+use Rattle.std.proofs.Common.{◌≡◌, ◌+◌, ◌++◌, ◌&&◌, ℕ, Bool, true, false, cond, List, [], ◌∷◌, length, Option, Some, None, refl, sym, ap, ◌∙◌, arith, append_assoc, length-append, if◌then◌else◌}
 use Rattle.std.specs.Option.{IfSome, is_none, option_or}
 use Rattle.std.specs.Str.{bytes_eq}
 use Rattle.row_codec.specs.Records.{Record}
-use Rattle.size_model.specs.Declarations.{Declaration, Declares, IsFirstFault, column, column_in, declaration_of, first_some, further, is_new, nothing, says_column, says_stream, stream, stream_in}
-use Rattle.size_model.specs.Answers.{Adds, Answers, Reads, column_of, is_free, is_taken, stream_of}
+use Rattle.size_model.specs.Declarations.{Declaration, Declares, column, column_in, declaration_of, first_some, further, is_new, nothing, says_column, says_stream, stream, stream_in}
+use Rattle.size_model.specs.Answers.{Adds, Answers, column_of, is_free, is_taken, stream_of}
 use Rattle.size_model.specs.declared.sizes.Sizes.{Sizes}
 use Rattle.size_model.proofs.TableLemmas.{bytes_same}
 
@@ -73,9 +73,6 @@ pub record ReadSoFar (whole : List Record) (number : ℕ) (rest : List Record) (
 pub none_read : (whole : List Record) (s : Sizes) → ((name : List ℕ) → stream_of s name ≡ None) → ((name col : List ℕ) → column_of s name col ≡ None) → ReadSoFar whole 0 whole s
 none_read whole s f g = record { done = []; declared = []; cut = refl; many = refl; declare = nothing; answers = record { streams = f; columns = g } }
 
-pub all_read : (whole : List Record) (number : ℕ) (s : Sizes) → ReadSoFar whole number [] s → Reads whole s
-all_read whole number s r = (r.declared, subst (λ z. Declares z r.declared) (sym (r.cut ∙ append-nil r.done)) r.declare, r.answers)
-
 one_by : (whole : List Record) (number : ℕ) (x : Record) (rest : List Record) (old new : Sizes) (o : Option Declaration) → declaration_of x ≡ o
     → ReadSoFar whole number (x ∷ rest) old → is_taken o old ≡ true → IfSome o (λ d. Adds d old new) → ReadSoFar whole (number + 1) rest new
 one_by whole number x rest old new None q r h e = absurd (cc)
@@ -94,17 +91,3 @@ one_by whole number x rest old new (Some d) q r h e =
 pub one_more : (whole : List Record) (number : ℕ) (x : Record) (rest : List Record) (old new : Sizes) → ReadSoFar whole number (x ∷ rest) old
     → is_taken (declaration_of x) old ≡ true → IfSome (declaration_of x) (λ d. Adds d old new) → ReadSoFar whole (number + 1) rest new
 one_more whole number x rest old new r h e = one_by whole number x rest old new (declaration_of x) refl r h e
-
--- the next record is outside the form
-pub a_fault : (whole : List Record) (number : ℕ) (x : Record) (rest : List Record) (s : Sizes) → ReadSoFar whole number (x ∷ rest) s
-    → is_taken (declaration_of x) s ≡ false → IsFirstFault whole (number + 1)
-a_fault whole number x rest s r h = record {
-  before = r.done;
-  bad = x;
-  behind = rest;
-  declared = r.declared;
-  cut = r.cut;
-  declare = r.declare;
-  outside = λ d q. sym (free_is d r.declared s r.answers) ∙ subst (λ z. is_taken z s ≡ false) q h;
-  place = ap (λ z. z + 1) (sym r.many);
-}
