@@ -103,17 +103,19 @@ abbrev pub declared_text : Option Stored → List ℕ
 declared_text None = []
 declared_text (Some s) = stored_text s.hash s.sorted
 
+-- and then the line's end
+abbrev pub line_end : Option Stored → List ℕ
+line_end stored = declared_text stored ++ codes "\n"
+
 abbrev pub scan_line : ℕ → ScanDecl → List ℕ
-scan_line i s =
-    stream_text (codes "scan ") i s.stream ++ (codes " op " ++ called_text s.op s.args) ++ (codes " cols " ++ schema_text s.schema) ++ declared_text s.stored ++ codes "\n"
+scan_line i s = stream_text (codes "scan ") i s.stream ++ (codes " op " ++ called_text s.op s.args) ++ (codes " cols " ++ schema_text s.schema) ++ line_end s.stored
 
 -- a shared tree behind its line
 abbrev pub shared_lines : ℕ → Logical → List ℕ
 shared_lines i t = codes "shared " ++ decimal i ++ codes "\n" ++ tree_text (tree_of t)
 
 abbrev pub output_line : ℕ → Output → List ℕ
-output_line i o =
-    stream_text (codes "output ") i o.name ++ (codes " delimiter " ++ decimal o.delimiter) ++ (codes " order " ++ presort_text o.order) ++ declared_text o.stored ++ codes "\n"
+output_line i o = stream_text (codes "output ") i o.name ++ (codes " delimiter " ++ decimal o.delimiter) ++ (codes " order " ++ presort_text o.order) ++ line_end o.stored
 
 -- an output's tree behind its line
 abbrev pub output_lines : ℕ → Output → List ℕ

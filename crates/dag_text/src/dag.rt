@@ -48,6 +48,14 @@ fn write_declared(stored: &Option<Stored>, out: &mut Vec<u8>) -> Result<(), Allo
     }
 }
 
+// Ends a line with how a stream is stored.
+fn write_line_end(stored: &Option<Stored>, out: &mut Vec<u8>) -> Result<(), AllocError>
+    ensures { OnOk result (out.new.items ≡ out.old.items ++ spec.line_end stored.now) }
+{
+    write_declared(stored, out)?;
+    out.extend_from_slice(b"\n")
+}
+
 // Writes the line of a scan.
 fn write_scan(number: u64, scan: &ScanDecl, out: &mut Vec<u8>) -> Result<(), AllocError>
     ensures { OnOk result (out.new.items ≡ out.old.items ++ spec.scan_line number scan.now) }
@@ -55,8 +63,7 @@ fn write_scan(number: u64, scan: &ScanDecl, out: &mut Vec<u8>) -> Result<(), All
     write_stream(b"scan ", number, scan.stream.as_slice(), out)?;
     write_called(b" op ", scan.op, scan.args.as_slice(), out)?;
     write_schema(scan.schema.as_slice(), out)?;
-    write_declared(&scan.stored, out)?;
-    out.extend_from_slice(b"\n")
+    write_line_end(&scan.stored, out)
 }
 
 // Writes a shared tree behind its line.
@@ -84,8 +91,7 @@ fn write_output_line(number: u64, output: &Output, out: &mut Vec<u8>) -> Result<
     write_stream(b"output ", number, output.name.as_slice(), out)?;
     write_delimiter(output.delimiter, out)?;
     write_presort(b" order ", output.order, out)?;
-    write_declared(&output.stored, out)?;
-    out.extend_from_slice(b"\n")
+    write_line_end(&output.stored, out)
 }
 
 // Writes an output's tree behind its line.
