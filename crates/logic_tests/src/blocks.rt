@@ -63,6 +63,9 @@ fn leaves_and_equalities_come_from_the_left(rt: HostRuntime) -> Result<(), Fail>
         left: 1,
         right: 3,
     };
-    assert_eq!(rt; block_equalities(&tree, 4).as_slice(), [first, second].as_slice());
+    assert_eq!(rt;
+        block_equalities(&tree, 4).as_slice(),
+        [first, second].as_slice()
+    );
     Ok(())
 }
