@@ -1,4 +1,3 @@
 mod TallFormed
-mod TextBounds
 mod WorkedBindable
 mod WorkedFormed

@@ -237,20 +237,18 @@ fn two_outputs(alloc: Global) -> Result<Items<Output>, AllocError>
 }
 
 // A script with a shared result and two outputs.
-fn whole(alloc: Global) -> Result<Dag, AllocError> {
+fn whole(alloc: Global) -> Result<Option<Dag>, AllocError> {
     let scans = one_scan(alloc)?;
     let shared = one_shared(alloc)?;
     let outputs = two_outputs(alloc)?;
-    Ok(Dag {
-        scans,
-        shared,
-        outputs,
-    })
+    Ok(Dag::new(scans, shared, outputs).ok())
 }
 
 // Nodes are numbered from 0 in each tree. What was there stays.
 fn whole_is_so(alloc: Global) -> Result<bool, AllocError> {
-    let dag = whole(alloc)?;
+    let Some(dag) = whole(alloc)? else {
+        return Ok(false);
+    };
     let mut text = Vec::from_slice(alloc, b"before\n")?;
     write_dag(alloc, &dag, &mut text)?;
     let wanted =
