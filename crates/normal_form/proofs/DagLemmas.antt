@@ -177,7 +177,7 @@ there ops s s' t t' r r' u u' rows a b c d h = rw (a, b, c, d) h
 
 -- the Dag as the laws on scripts see it
 abbrev script_dag : Dag → ScriptDag
-script_dag dag = record { scans = dag.scans; shared = shared_trees dag; streams = []; orders = orders_of dag; stored = map (λ (o : Output). o.stored) dag.outputs; outputs = output_trees dag }
+script_dag dag = record { scans = dag.scans; shared = shared_trees dag; streams = []; delimiters = []; orders = orders_of dag; stored = map (λ (o : Output). o.stored) dag.outputs; outputs = output_trees dag }
 
 kept : (old : Dag) (ops : Operators) (input : ScanDecl → Bag) (rows : List Bag) → IsBindable old → Gives ops input (script_dag old) rows ↔ Gives ops input (normal_dag (script_dag old)) rows
 kept old ops input rows b =

@@ -14,7 +14,7 @@ use Rattle.script_meaning.proofs.Whole.{gives_bindable}
 use Rattle.script_meaning.proofs.OneResult.{gives_meaning_alone}
 use Rattle.std.specs.Prelude.{◌↔◌}
 use Rattle.logical_dag.specs.declared.dag.ScanDecl.{ScanDecl}
-use Rattle.script_meaning.specs.Script.{Statement}
+use Rattle.placed_trees.specs.declared.statement.Statement.{Statement}
 use Rattle.script_meaning.specs.Placed.{IsPlaced}
 use Rattle.normal_meaning.proofs.Bare.{bindable_normal}
 use Rattle.std.specs.Prelude.{IfSome, All}

@@ -5,7 +5,7 @@ use Rattle.logical_dag.specs.declared.dag.ScanDecl.{ScanDecl}
 use Rattle.logical_trees.specs.Tree.{Expression}
 use Rattle.logical_trees.specs.Rows.{Bag}
 use Rattle.logical_trees.specs.Formed.{IsFormed}
-use Rattle.script_meaning.specs.Script.{Statement}
+use Rattle.placed_trees.specs.declared.statement.Statement.{Statement}
 use Rattle.script_meaning.specs.Dag.{ScriptDag, dag_of}
 use Rattle.script_meaning.specs.Laws.{Gives, meaning, FitsColumns, AreTold}
 use Rattle.script_meaning.specs.Placed.{IsPlaced}
@@ -15,7 +15,7 @@ use Rattle.normal_meaning.specs.Sinking.{normal}
 
 -- each tree in its normal form; scans, and what outputs are named, ordered and stored by, stay
 abbrev pub normal_dag : ScriptDag → ScriptDag
-normal_dag d = record { scans = d.scans; shared = map normal d.shared; streams = d.streams; orders = d.orders; stored = d.stored; outputs = map normal d.outputs }
+normal_dag d = record { scans = d.scans; shared = map normal d.shared; streams = d.streams; delimiters = d.delimiters; orders = d.orders; stored = d.stored; outputs = map normal d.outputs }
 
 -- what the nodes of each tree name is there, where the shared results have these columns
 abbrev pub AreFormed : List (List ℕ) → List Expression → Type 0

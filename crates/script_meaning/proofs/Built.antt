@@ -11,8 +11,6 @@ use Rattle.col_sets.specs.Sets.{has, count}
 use Rattle.col_sets.specs.Tests.{and_true, or_left, to_test}
 use Rattle.script_trees.specs.declared.agg.AggKind.{AggKind}
 use Rattle.scope_expr.specs.declared.expr.Expr.{Expr}
-use Rattle.logical_dag.specs.declared.dag.ScanDecl.{ScanDecl}
-use Rattle.logical_dag.specs.declared.dag.Stored.{Stored}
 use Rattle.logical_trees.specs.declared.logic_op.LogicOp.{LogicOp}
 use Rattle.logical_trees.specs.declared.logic_op.LogicOp.TheVariants.{Filter, Project, Group, Process, Reduce, Top}
 use Rattle.logical_trees.specs.Tree.{Expression, one, two, nodes, columns_of, fresh_columns, numbered_columns}
@@ -21,7 +19,11 @@ use Rattle.logical_dag.specs.Scripts.{top_of, is_step, scan_of, scans_of}
 use Rattle.scope_expr.specs.Moved.{moved}
 use Rattle.column_ranks.specs.Rising.{IsRising}
 use Rattle.column_ranks.specs.RisingLemmas.{rising_range}
-use Rattle.script_meaning.specs.Script.{Call, Grouping, Query}
+use Rattle.placed_trees.specs.declared.call.Call.{Call}
+use Rattle.placed_trees.specs.declared.query.Grouping.{Grouping}
+use Rattle.placed_trees.specs.declared.query.Query.{Query}
+use Rattle.placed_trees.specs.declared.source.StoredPlaces.{StoredPlaces}
+use Rattle.placed_trees.specs.declared.source.Stream.{Stream}
 use Rattle.script_meaning.specs.Meaning.{places, key_places, order_list, unless_stored}
 use Rattle.script_meaning.specs.Part.{Part, cols_at, number, scanned, referred, over, join_on, joined_part, call_at, order_at, process_part, reduce_part, combine_on, combine_part, filter_part, filter_opt, numbered, group_part, listed, grouping_opt, project_part, unique_opt, first_opt, query_part, stored_part}
 use Rattle.script_meaning.specs.Placed.{IsBelow, IsBelowOpt, AreBelow, AreArgsBelow, IsGroupingBelow, ArePlaces, IsOrderBelow, IsPresortBelow, IsStoredBelow, IsOn, IsQueryPlaced}
@@ -38,11 +40,11 @@ range_append c (suc m) n =
     let f : suc m + n ≡ suc (m + n) = omega arith in
     ap (λ i. c ∷ (range_with_len (c + 1) m ++ range_with_len i n)) e ∙ ap (λ l. c ∷ l) (range_append (c + 1) m n) ∙ ap (λ k. range_with_len c k) (sym f)
 
-scans_one : (op : LogicOp) (t : Expression) → scan_of op ≡ [] → scans_of (one op t) ≡ scans_of t
+pub scans_one : (op : LogicOp) (t : Expression) → scan_of op ≡ [] → scans_of (one op t) ≡ scans_of t
 scans_one op t h =
     flat_map-append (λ u. scan_of (top_of u)) (nodes t) (one op t ∷ []) ∙ ap (λ l. scans_of t ++ (l ++ [])) h ∙ append-nil (scans_of t)
 
-scans_two : (op : LogicOp) (t u : Expression) → scan_of op ≡ [] → scans_of (two op t u) ≡ scans_of t ++ scans_of u
+pub scans_two : (op : LogicOp) (t u : Expression) → scan_of op ≡ [] → scans_of (two op t u) ≡ scans_of t ++ scans_of u
 scans_two op t u h =
     flat_map-append (λ v. scan_of (top_of v)) (nodes t) (nodes u ++ two op t u ∷ [])
     ∙ ap (λ l. scans_of t ++ l) (flat_map-append (λ v. scan_of (top_of v)) (nodes u) (two op t u ∷ []) ∙ ap (λ l. scans_of u ++ (l ++ [])) h ∙ append-nil (scans_of u))
@@ -52,11 +54,11 @@ abbrev pub AreKnown : (ℕ → ℕ) → List (List ℕ) → (ℕ → ℕ) → Li
 AreKnown width_of results name refs = (k : ℕ) → has refs k ≡ true → IsSomeAnd (slice_get results (name k)) (λ result. count result ≡ width_of k)
 
 -- what the scans are declared to be stored by are places among their columns
-abbrev pub AreDeclared : List ScanDecl → Type 0
+abbrev pub AreDeclared : List Stream → Type 0
 AreDeclared [] = Unit {0}
 AreDeclared (d ∷ scans) = IsStoredBelow (length d.schema) d.stored × AreDeclared scans
 
-pub declared_append : (ds es : List ScanDecl) → AreDeclared ds → AreDeclared es → AreDeclared (ds ++ es)
+pub declared_append : (ds es : List Stream) → AreDeclared ds → AreDeclared es → AreDeclared (ds ++ es)
 declared_append [] es h k = k
 declared_append (d ∷ ds) es h k = (h.0, declared_append ds es h.1 k)
 
@@ -154,7 +156,7 @@ module _ (width_of : ℕ → ℕ) where
 
   grouping_built : (o : Option Grouping) (a : Part) → IsBuilt a → IsGroupingBelow (length a.cols) o → IsBuilt (grouping_opt o a)
   grouping_built None a b h = b
-  grouping_built (Some g) a b h = group_built (listed g.written) (key_places (length a.cols) g.written) g.aggs a b (keys_ascend (length a.cols) g.written) h
+  grouping_built (Some g) a b h = group_built (listed g.written) (key_places (length a.cols) g.written) g.aggs a b (keys_ascend (length a.cols) g.written) h.1
 
   unique_built : (d : Bool) (a : Part) → IsBuilt a → IsBuilt (unique_opt d a)
   unique_built false a b = b
@@ -202,7 +204,7 @@ module _ (width_of : ℕ → ℕ) where
   -- ---- leaves
 
   -- an OUTPUT's part
-  pub stored_built : (stored : Option Stored) (a : Part) → IsBuilt a → IsStoredBelow (length a.cols) stored → IsBuilt (stored_part stored a)
+  pub stored_built : (stored : Option StoredPlaces) (a : Part) → IsBuilt a → IsStoredBelow (length a.cols) stored → IsBuilt (stored_part stored a)
   stored_built stored a b h = record {
     shape = record { rising = b.shape.rising; columns = b.shape.columns };
     order = ordered stored;
@@ -216,15 +218,15 @@ module _ (width_of : ℕ → ℕ) where
     formed = b.formed;
   }
     where
-      ordered : (o : Option Stored) → IsPresortBelow (length a.cols) (unless_stored o a.order)
+      ordered : (o : Option StoredPlaces) → IsPresortBelow (length a.cols) (unless_stored o a.order)
       ordered None = b.order
       ordered (Some s) = tt
 
-      unordered : (o : Option Stored) → IfSome o (λ s. unless_stored o a.order ≡ None)
+      unordered : (o : Option StoredPlaces) → IfSome o (λ s. unless_stored o a.order ≡ None)
       unordered None = tt
       unordered (Some s) = refl
 
-  pub scanned_built : (d : ScanDecl) → IsStoredBelow (length d.schema) d.stored → IsBuilt (scanned d)
+  pub scanned_built : (d : Stream) → IsStoredBelow (length d.schema) d.stored → IsBuilt (scanned d)
   scanned_built d h = record {
     shape = scanned_shaped d;
     order = tt;
@@ -285,7 +287,7 @@ module _ (width_of : ℕ → ℕ) where
         ap (map (λ (x : ℕ × List ℕ). length x.1)) (scans_two (op c) (a.tree name s c) (b.tree name (s + length a.scans) (c + a.count)) (scan c))
         ∙ map-append (λ (x : ℕ × List ℕ). length x.1) (scans_of (a.tree name s c)) (scans_of (b.tree name (s + length a.scans) (c + a.count)))
         ∙ ap₂ (λ l m. l ++ m) (x.widths name s c) (y.widths name (s + length a.scans) (c + a.count))
-        ∙ sym (map-append (λ (d : ScanDecl). length d.schema) a.scans b.scans);
+        ∙ sym (map-append (λ (d : Stream). length d.schema) a.scans b.scans);
     formed = λ name s c results l k.
         let in_left : c + a.count ≤ 128 = omega arith in
         let in_right : c + a.count + b.count ≤ 128 = omega arith in (

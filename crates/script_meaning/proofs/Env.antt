@@ -4,9 +4,17 @@ use Rattle.std.proofs.lemmas.Bool.Decides.{nat_tests}
 use Rattle.std.proofs.lemmas.List.{length_push}
 use Rattle.std.proofs.lemmas.Option.{slice_get_within}
 use Rattle.user_ops.specs.Told.{Operators}
-use Rattle.logical_dag.specs.declared.dag.ScanDecl.{ScanDecl}
 use Rattle.logical_trees.specs.Rows.{Bag}
-use Rattle.script_meaning.specs.Script.{Source, from_result, from_stream, Joined, Beside, inners, outer, Command, extract, select, process, reduce, combine, output, Statement, input_at}
+use Rattle.placed_trees.specs.declared.command.Command.{Command}
+use Rattle.placed_trees.specs.declared.command.Command.TheVariants.{Extract, Select, Process, Reduce, Combine, Output}
+use Rattle.placed_trees.specs.declared.query.Beside.{Beside}
+use Rattle.placed_trees.specs.declared.query.Beside.TheVariants.{Inners, Outer}
+use Rattle.placed_trees.specs.declared.query.Joined.{Joined}
+use Rattle.placed_trees.specs.declared.source.Source.{Source}
+use Rattle.placed_trees.specs.declared.source.Source.TheVariants.{FromResult, FromStream}
+use Rattle.placed_trees.specs.declared.source.Stream.{Stream}
+use Rattle.placed_trees.specs.declared.statement.Statement.{Statement}
+use Rattle.placed_trees.specs.Inputs.{input_at}
 use Rattle.script_meaning.specs.Meaning.{Table, or_no_table, result_at, source_rows, from_rows, beside_rows, result, results}
 use Rattle.script_meaning.specs.Part.{Part}
 use Rattle.script_meaning.specs.Bound.{is_shared, stands, found, placed, source_part, from_part, beside_part, bound, bound_from}
@@ -32,14 +40,14 @@ get_past (y ∷ xs) x zero h = absurd (omega arith)
 get_past (y ∷ xs) x (suc k) h = get_past xs x k (omega arith)
 
 -- later statements change no earlier result
-results_more : (ops : Operators) (input : ScanDecl → Bag) (earlier : List Statement) (done : List Table) (rest : List Statement) → length done ≤ length (results ops input earlier done rest)
+results_more : (ops : Operators) (input : Stream → Bag) (earlier : List Statement) (done : List Table) (rest : List Statement) → length done ≤ length (results ops input earlier done rest)
 results_more ops input earlier done [] = omega arith
 results_more ops input earlier done (s ∷ rest) =
     let h = results_more ops input (earlier ++ s ∷ []) (done ++ result ops input earlier done s.command ∷ []) rest in
     let m = length_push done (result ops input earlier done s.command) in
     omega (arith, h, m)
 
-results_keep : (ops : Operators) (input : ScanDecl → Bag) (earlier : List Statement) (done : List Table) (rest : List Statement) (k : ℕ) → k < length done
+results_keep : (ops : Operators) (input : Stream → Bag) (earlier : List Statement) (done : List Table) (rest : List Statement) (k : ℕ) → k < length done
     → slice_get (results ops input earlier done rest) k ≡ slice_get done k
 results_keep ops input earlier done [] k h = refl
 results_keep ops input earlier done (s ∷ rest) k h =
@@ -47,7 +55,7 @@ results_keep ops input earlier done (s ∷ rest) k h =
     let more : k < length (done ++ a ∷ []) = let m = length_push done a in omega (arith, m) in
     results_keep ops input (earlier ++ s ∷ []) (done ++ a ∷ []) rest k more ∙ get_below done a k h
 
-module _ (ops : Operators) (input : ScanDecl → Bag) (rows_of : ℕ → Bag) where
+module _ (ops : Operators) (input : Stream → Bag) (rows_of : ℕ → Bag) where
   pub record AllTied (env : List Part) (done : List Table) : Type 0 where
     pub same : length env ≡ length done
     pub each : (k : ℕ) → Tied ops input rows_of (part_at env k) (table_at done k)
@@ -74,8 +82,8 @@ module _ (ops : Operators) (input : ScanDecl → Bag) (rows_of : ℕ → Bag) wh
 
   source_tied : (all : List ℕ) (earlier : List Statement) (env : List Part) (done : List Table) → AllTied env done → Known done → (source : Source)
       → Tied ops input rows_of (source_part all earlier env source) (source_rows input earlier done source)
-  source_tied all earlier env done t known (from_result i) = placed_tied all env done t known (input_at earlier i)
-  source_tied all earlier env done t known (from_stream d) = scanned_tied ops input rows_of d
+  source_tied all earlier env done t known (FromResult i) = placed_tied all env done t known (input_at earlier i)
+  source_tied all earlier env done t known (FromStream d) = scanned_tied ops input rows_of d
 
   from_tied : (all : List ℕ) (earlier : List Statement) (env : List Part) (done : List Table) → AllTied env done → Known done → (joins : List Joined) (a : Part) (A : Table)
       → Tied ops input rows_of a A → Tied ops input rows_of (from_part all earlier env a joins) (from_rows input earlier done A joins)
@@ -85,19 +93,19 @@ module _ (ops : Operators) (input : ScanDecl → Bag) (rows_of : ℕ → Bag) wh
 
   beside_tied : (all : List ℕ) (earlier : List Statement) (env : List Part) (done : List Table) → AllTied env done → Known done → (beside : Beside) (a : Part) (A : Table)
       → Tied ops input rows_of a A → IsBesideTold ops input earlier done A beside → Tied ops input rows_of (beside_part all earlier env a beside) (beside_rows input earlier done A beside)
-  beside_tied all earlier env done t known (inners joins) a A h told = from_tied all earlier env done t known joins a A h
-  beside_tied all earlier env done t known (outer side call j) a A h told = outer_tied ops input rows_of side j.on call a _ A _ h (source_tied all earlier env done t known j.source) told
+  beside_tied all earlier env done t known (Inners joins) a A h told = from_tied all earlier env done t known joins a A h
+  beside_tied all earlier env done t known (Outer side call j) a A h told = outer_tied ops input rows_of side j.on call a _ A _ h (source_tied all earlier env done t known j.source) told
 
   bound_tied : (all : List ℕ) (earlier : List Statement) (env : List Part) (done : List Table) → AllTied env done → Known done → (c : Command) → IsCommandTold ops input earlier done c
       → Tied ops input rows_of (bound all earlier env c) (result ops input earlier done c)
-  bound_tied all earlier env done t known (extract d) told = scanned_tied ops input rows_of d
-  bound_tied all earlier env done t known (select q) told =
+  bound_tied all earlier env done t known (Extract d) told = scanned_tied ops input rows_of d
+  bound_tied all earlier env done t known (Select q) told =
       query_tied ops input rows_of q _ _ (beside_tied all earlier env done t known q.beside _ _ (source_tied all earlier env done t known q.source) told)
-  bound_tied all earlier env done t known (process source call) told = process_tied ops input rows_of call _ _ (source_tied all earlier env done t known source)
-  bound_tied all earlier env done t known (reduce source on presort call) told = reduce_tied ops input rows_of on presort call _ _ (source_tied all earlier env done t known source)
-  bound_tied all earlier env done t known (combine source before other after on call) told =
+  bound_tied all earlier env done t known (Process source call) told = process_tied ops input rows_of call _ _ (source_tied all earlier env done t known source)
+  bound_tied all earlier env done t known (Reduce source on presort call) told = reduce_tied ops input rows_of on presort call _ _ (source_tied all earlier env done t known source)
+  bound_tied all earlier env done t known (Combine source before other after on call) told =
       combine_tied ops input rows_of on before after call _ _ _ _ (source_tied all earlier env done t known source) (source_tied all earlier env done t known other)
-  bound_tied all earlier env done t known (output source stream stored) told = stored_tied ops input rows_of stored _ _ (placed_tied all env done t known (input_at earlier source))
+  bound_tied all earlier env done t known (Output w) told = stored_tied ops input rows_of w.stored _ _ (placed_tied all env done t known (input_at earlier w.source))
 
   push_tied : (env : List Part) (done : List Table) (b : Part) (A : Table) → AllTied env done → Tied ops input rows_of b A → AllTied (env ++ b ∷ []) (done ++ A ∷ [])
   push_tied env done b A t h = record {

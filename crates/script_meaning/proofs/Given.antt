@@ -9,7 +9,7 @@ use Rattle.col_sets.specs.Tests.{both, or_left, or_right, to_test}
 use Rattle.scope_value.specs.Keys.{keys_cmp}
 use Rattle.scope_value.specs.Sorted.{sorted}
 use Rattle.user_ops.specs.Told.{Operators}
-use Rattle.logical_dag.specs.declared.dag.ScanDecl.{ScanDecl}
+use Rattle.placed_trees.specs.declared.source.Stream.{Stream}
 use Rattle.logical_trees.specs.Tree.{columns_of}
 use Rattle.logical_trees.specs.Rows.{Bag}
 use Rattle.logical_trees.specs.Meaning.{Sources, bag_at, StandsFor}
@@ -20,7 +20,7 @@ use Rattle.script_meaning.specs.Bound.{mentions, parts_of}
 use Rattle.script_meaning.specs.Dag.{part_at, outs_of, reached, kept_of, place_in, scans_of_all, trees_from, column_order, dag_of}
 use Rattle.logical_dag.specs.DagMeaning.{in_order_opt, AllStand, Writes, drawn, scan_rows}
 use Rattle.logical_dag.specs.Scripts.{scans_of}
-use Rattle.script_meaning.specs.Laws.{table_at, written_at, results_of, GivesMeaning}
+use Rattle.script_meaning.specs.Laws.{stream_rows, table_at, written_at, results_of, GivesMeaning}
 use Rattle.script_meaning.proofs.Declared.{rows_declared}
 use Rattle.script_meaning.proofs.Shaped.{get_left, get_right}
 use Rattle.script_meaning.proofs.Tied.{Reads, Tied, ranks}
@@ -39,16 +39,16 @@ read_place f (x ∷ xs) k h = at (x == k) refl (read_place f xs k)
     at true e again = let is : x ≡ k = grind (arith, nat_tests, e) in simp e (ap f is)
     at false e again = let g = simp e at h in simp e (rw (one_more (place_in xs k)) (again g))
 
-bag_mapped : (input : ScanDecl → Bag) (xs : List ScanDecl) (i : ℕ) (d : ScanDecl) → slice_get xs i ≡ Some d → bag_at (map input xs) i ≡ input d
+bag_mapped : (input : Stream → Bag) (xs : List Stream) (i : ℕ) (d : Stream) → slice_get xs i ≡ Some d → bag_at (map input xs) i ≡ input d
 bag_mapped input [] i d h = absurd (cc)
 bag_mapped input (x ∷ xs) zero d h = let e : x ≡ d = cc in ap input e
 bag_mapped input (x ∷ xs) (suc i) d h = bag_mapped input xs i d h
 
-module _ (ops : Operators) (input : ScanDecl → Bag) (rows_of : ℕ → Bag) (name : ℕ → ℕ) (env : List Part) (done : List Table) (from : Sources)
+module _ (ops : Operators) (input : Stream → Bag) (rows_of : ℕ → Bag) (name : ℕ → ℕ) (env : List Part) (done : List Table) (from : Sources)
     (tied : AllTied ops input rows_of env done) (fits : (k : ℕ) → (part_at env k).count ≤ 128) where
   -- what the trees of these statements draw on is there
   record ReadsAll (s : ℕ) (ks : List ℕ) : Type 0 where
-    scans : (i : ℕ) (d : ScanDecl) → slice_get (scans_of_all env ks) i ≡ Some d → bag_at from.scans (s + i) ≡ input d
+    scans : (i : ℕ) (d : Stream) → slice_get (scans_of_all env ks) i ≡ Some d → bag_at from.scans (s + i) ≡ input d
     refs : (k : ℕ) → has ks k ≡ true → (j : ℕ) → has (part_at env k).refs j ≡ true → bag_at from.shared (name j) ≡ rows_of j
 
   first_reads : (s k : ℕ) (ks : List ℕ) → ReadsAll s (k ∷ ks) → Reads ops input rows_of (part_at env k) name s 0 from
@@ -93,8 +93,8 @@ module _ (ops : Operators) (input : ScanDecl → Bag) (rows_of : ℕ → Bag) (n
 pub gives_meaning : GivesMeaning
 gives_meaning ops input script fits told = (
   map rows_of kept,
-  all_stand ops (scan_rows input) rows_of (place_in kept) env done from tied fits 0 kept (record { scans = λ i d e. ap (bag_at from.scans) (zeroed i) ∙ in_scans i d (get_left _ _ i d e); refs = kept_refs }),
-  all_written ops (scan_rows input) rows_of (place_in kept) env done from tied fits (length (scans_of_all env kept)) outs
+  all_stand ops (stream_rows input) rows_of (place_in kept) env done from tied fits 0 kept (record { scans = λ i d e. ap (bag_at from.scans) (zeroed i) ∙ in_scans i d (get_left _ _ i d e); refs = kept_refs }),
+  all_written ops (stream_rows input) rows_of (place_in kept) env done from tied fits (length (scans_of_all env kept)) outs
       (record { scans = λ i d e. in_scans (length (scans_of_all env kept) + i) d (get_right (scans_of_all env kept) (scans_of_all env outs) i ∙ e); refs = out_refs }),
 )
   where
@@ -116,16 +116,16 @@ gives_meaning ops input script fits told = (
     from : Sources
     from = drawn (map (scan_rows input) (dag_of script).scans) (map rows_of kept)
 
-    tied : AllTied ops (scan_rows input) rows_of env done
-    tied = all_tied ops (scan_rows input) rows_of (mentions [] script) [] [] [] script (start_tied ops (scan_rows input) rows_of) (λ k l. refl) told
+    tied : AllTied ops (stream_rows input) rows_of env done
+    tied = all_tied ops (stream_rows input) rows_of (mentions [] script) [] [] [] script (start_tied ops (stream_rows input) rows_of) (λ k l. refl) told
 
     zeroed : (n : ℕ) → 0 + n ≡ n
     zeroed n = omega arith
 
-    in_scans : (i : ℕ) (d : ScanDecl) → slice_get (scans_of_all env kept ++ scans_of_all env outs) i ≡ Some d → bag_at from.scans i ≡ scan_rows input d
+    in_scans : (i : ℕ) (d : Stream) → slice_get (scans_of_all env kept ++ scans_of_all env outs) i ≡ Some d → bag_at from.scans i ≡ stream_rows input d
     in_scans i d e =
         ap (λ bags. bag_at bags i) (rows_declared input (scans_of_all env kept ++ scans_of_all env outs) (flat_map scans_of ((dag_of script).shared ++ (dag_of script).outputs)))
-        ∙ bag_mapped (scan_rows input) (scans_of_all env kept ++ scans_of_all env outs) i d e
+        ∙ bag_mapped (stream_rows input) (scans_of_all env kept ++ scans_of_all env outs) i d e
 
     live : (k : ℕ) → (has outs k || has (reached outs 0 env) k) ≡ true → (j : ℕ) → has (part_at env k).refs j ≡ true → bag_at from.shared (place_in kept j) ≡ rows_of j
     live k l j m = read_place rows_of kept j (refs_kept outs env (all_below (mentions [] script) [] [] script tt) k l j m)

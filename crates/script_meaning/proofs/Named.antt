@@ -14,12 +14,12 @@ use Rattle.scope_expr.specs.declared.expr.Expr.TheVariants.{Literal, Col, Neg', 
 use Rattle.logical_trees.specs.declared.agg.Agg.{Agg}
 use Rattle.logical_trees.specs.Rows.{order_of}
 use Rattle.logical_trees.specs.Formed.{IsOver, IsArgumentOver, IsOrderOver, IsGroup, IsCall, IsJoin}
-use Rattle.logical_dag.specs.declared.dag.Stored.{Stored}
 use Rattle.logical_dag.specs.Scripts.{IsStoredOver}
 use Rattle.scope_expr.specs.Moved.{moved}
 use Rattle.column_ranks.specs.Rising.{IsRising}
 use Rattle.column_ranks.specs.RisingLemmas.{rising_le, rising_from, rising_below, rising_set, rising_range}
-use Rattle.script_meaning.specs.Script.{Call}
+use Rattle.placed_trees.specs.declared.call.Call.{Call}
+use Rattle.placed_trees.specs.declared.source.StoredPlaces.{StoredPlaces}
 use Rattle.script_meaning.specs.Part.{numbered, order_at, stored_at, call_at}
 use Rattle.script_meaning.specs.Placed.{IsBelow, IsBelowOpt, AreBelow, AreArgsBelow, ArePlaces, IsOrderBelow, IsPresortBelow, IsStoredBelow, ArePairs}
 use Rattle.script_meaning.proofs.Shaped.{rising_weaken}
@@ -80,7 +80,7 @@ module _ (f : ℕ → ℕ) (cols : List ℕ) (n : ℕ) (there : (p : ℕ) → p 
   presort_over None h = refl
   presort_over (Some order) h = order_moved order h
 
-  pub stored_over : (stored : Option Stored) → IsStoredBelow n stored → IsStoredOver cols (stored_at f stored)
+  pub stored_over : (stored : Option StoredPlaces) → IsStoredBelow n stored → IsStoredOver cols (stored_at f stored)
   stored_over None h = tt
   stored_over (Some s) h = (within_moved s.hash h.0, presort_over s.sorted h.1)
 

@@ -5,7 +5,17 @@ use Rattle.std.proofs.lemmas.Option.{slice_get_within}
 use Rattle.col_sets.specs.Sets.{has}
 use Rattle.col_sets.specs.Columns.{has-filter}
 use Rattle.col_sets.specs.Tests.{either, or_left, or_right, from_test, and_true}
-use Rattle.script_meaning.specs.Script.{Source, from_result, from_stream, Joined, Beside, inners, outer, Grouping, Query, Command, extract, select, process, reduce, combine, output, Statement, input_at}
+use Rattle.placed_trees.specs.declared.command.Command.{Command}
+use Rattle.placed_trees.specs.declared.command.Command.TheVariants.{Extract, Select, Process, Reduce, Combine, Output}
+use Rattle.placed_trees.specs.declared.query.Beside.{Beside}
+use Rattle.placed_trees.specs.declared.query.Beside.TheVariants.{Inners, Outer}
+use Rattle.placed_trees.specs.declared.query.Grouping.{Grouping}
+use Rattle.placed_trees.specs.declared.query.Joined.{Joined}
+use Rattle.placed_trees.specs.declared.query.Query.{Query}
+use Rattle.placed_trees.specs.declared.source.Source.{Source}
+use Rattle.placed_trees.specs.declared.source.Source.TheVariants.{FromResult, FromStream}
+use Rattle.placed_trees.specs.declared.statement.Statement.{Statement}
+use Rattle.placed_trees.specs.Inputs.{input_at}
 use Rattle.script_meaning.specs.Part.{Part, joined_part, filter_opt, grouping_opt, unique_opt, first_opt, query_part}
 use Rattle.scope_expr.specs.declared.expr.Expr.{Expr}
 use Rattle.col_sets.specs.declared.dir.Dir.{Dir}
@@ -64,8 +74,8 @@ placed_below all env (Some k) h = go (slice_get env k) refl
             let w : k < length env = slice_get_within env k b e in omega arith
 
 source_below : (all : List ℕ) (earlier : List Statement) (env : List Part) → AllBelow 0 env → (source : Source) → RefersBelow (length env) (source_part all earlier env source)
-source_below all earlier env h (from_result i) = placed_below all env (input_at earlier i) h
-source_below all earlier env h (from_stream d) = λ j m. absurd (cc)
+source_below all earlier env h (FromResult i) = placed_below all env (input_at earlier i) h
+source_below all earlier env h (FromStream d) = λ j m. absurd (cc)
 
 -- what refers to what one of two refers to
 either_below : (n : ℕ) (a b : Part) → RefersBelow n a → RefersBelow n b → (j : ℕ) → has (a.refs ++ b.refs) j ≡ true → j < n
@@ -84,8 +94,8 @@ from_below all earlier env h (j ∷ joins) a k =
 
 beside_below : (all : List ℕ) (earlier : List Statement) (env : List Part) → AllBelow 0 env → (beside : Beside) (a : Part) → RefersBelow (length env) a
     → RefersBelow (length env) (beside_part all earlier env a beside)
-beside_below all earlier env h (inners joins) a k = from_below all earlier env h joins a k
-beside_below all earlier env h (outer side call j) a k = either_below (length env) a (source_part all earlier env j.source) k (source_below all earlier env h j.source)
+beside_below all earlier env h (Inners joins) a k = from_below all earlier env h joins a k
+beside_below all earlier env h (Outer side call j) a k = either_below (length env) a (source_part all earlier env j.source) k (source_below all earlier env h j.source)
 
 refs_filter : (o : Option Expr) (a : Part) → (filter_opt o a).refs ≡ a.refs
 refs_filter None a = refl
@@ -103,19 +113,19 @@ refs_first : (o : Option ℕ) (order : List (ℕ × Dir)) (a : Part) → (first_
 refs_first None order a = refl
 refs_first (Some n) order a = refl
 
-refs_query : (q : Query) (a : Part) → (query_part q a).refs ≡ a.refs
+pub refs_query : (q : Query) (a : Part) → (query_part q a).refs ≡ a.refs
 refs_query q a = refs_first q.top _ _ ∙ refs_unique q.distinct _ ∙ refs_filter q.having _ ∙ refs_grouping q.group _ ∙ refs_filter q.test a
 
 bound_below : (all : List ℕ) (earlier : List Statement) (env : List Part) → AllBelow 0 env → (c : Command) → RefersBelow (length env) (bound all earlier env c)
-bound_below all earlier env h (extract d) j m = absurd (cc)
-bound_below all earlier env h (select q) j m =
+bound_below all earlier env h (Extract d) j m = absurd (cc)
+bound_below all earlier env h (Select q) j m =
     beside_below all earlier env h q.beside _ (source_below all earlier env h q.source) j
     (subst (λ (s : List ℕ). has s j ≡ true) (refs_query q (beside_part all earlier env (source_part all earlier env q.source) q.beside)) m)
-bound_below all earlier env h (process source call) j m = source_below all earlier env h source j m
-bound_below all earlier env h (reduce source on presort call) j m = source_below all earlier env h source j m
-bound_below all earlier env h (combine source before other after on call) j m =
+bound_below all earlier env h (Process source call) j m = source_below all earlier env h source j m
+bound_below all earlier env h (Reduce source on presort call) j m = source_below all earlier env h source j m
+bound_below all earlier env h (Combine source before other after on call) j m =
     either_below (length env) (source_part all earlier env source) (source_part all earlier env other) (source_below all earlier env h source) (source_below all earlier env h other) j m
-bound_below all earlier env h (output source stream stored) j m = placed_below all env (input_at earlier source) h j m
+bound_below all earlier env h (Output w) j m = placed_below all env (input_at earlier w.source) h j m
 
 pub all_below : (all : List ℕ) (earlier : List Statement) (env : List Part) (rest : List Statement) → AllBelow 0 env → AllBelow 0 (bound_from all earlier env rest)
 all_below all earlier env [] h = h

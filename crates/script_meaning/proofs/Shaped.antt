@@ -8,7 +8,6 @@ use Rattle.col_sets.specs.Tests.{or_right}
 use Rattle.script_trees.specs.declared.agg.AggKind.{AggKind}
 use Rattle.scope_expr.specs.declared.expr.Expr.{Expr}
 use Rattle.logical_trees.specs.declared.agg.Agg.{Agg}
-use Rattle.logical_dag.specs.declared.dag.ScanDecl.{ScanDecl}
 use Rattle.logical_trees.specs.declared.logic_op.LogicOp.{LogicOp}
 use Rattle.logical_trees.specs.declared.logic_op.LogicOp.TheVariants.{Filter, Project, Group, Process, Reduce, Top}
 use Rattle.logical_trees.specs.Tree.{two, one_columns, two_columns, columns_of}
@@ -17,7 +16,10 @@ use Rattle.column_ranks.specs.Rising.{IsRising}
 use Rattle.column_ranks.specs.RisingLemmas.{rising_append, rising_shift, rising_range, rising_filter, union_append}
 use Rattle.column_ranks.specs.Picked.{picked}
 use Rattle.column_ranks.specs.RowLemmas.{map_twice, map_over_append}
-use Rattle.script_meaning.specs.Script.{Call, Grouping, Query}
+use Rattle.placed_trees.specs.declared.call.Call.{Call}
+use Rattle.placed_trees.specs.declared.query.Grouping.{Grouping}
+use Rattle.placed_trees.specs.declared.query.Query.{Query}
+use Rattle.placed_trees.specs.declared.source.Stream.{Stream}
 use Rattle.script_meaning.specs.Meaning.{places, key_places, order_list}
 use Rattle.script_meaning.specs.Part.{Part, cols_at, number, nothing, scanned, referred, over, join_on, joined_part, call_at, order_at, process_part, reduce_part, combine_on, combine_part, filter_part, filter_opt, numbered, group_part, listed, grouping_opt, project_part, unique_opt, first_opt, query_part}
 use Rattle.script_meaning.proofs.Grouped.{ids_numbered}
@@ -152,7 +154,7 @@ plain_columns name c n = let e : c + 0 ≡ c = omega arith in sym (range_shift c
 pub nothing_shaped : IsShaped nothing
 nothing_shaped = record { rising = omega arith; columns = λ name s c l. refl }
 
-pub scanned_shaped : (d : ScanDecl) → IsShaped (scanned d)
+pub scanned_shaped : (d : Stream) → IsShaped (scanned d)
 scanned_shaped d = record { rising = rising_range 0 (length d.schema) (length d.schema) (omega arith); columns = λ name s c l. plain_columns name c (length d.schema) }
 
 pub referred_shaped : (k : ℕ) (b : Part) → IsShaped (referred k b)

@@ -13,8 +13,6 @@ use Rattle.col_sets.specs.Tests.{or_left, to_test}
 use Rattle.user_ops.specs.Told.{Operators, combines_at}
 use Rattle.script_trees.specs.declared.agg.AggKind.{AggKind}
 use Rattle.scope_expr.specs.declared.expr.Expr.{Expr}
-use Rattle.logical_dag.specs.declared.dag.ScanDecl.{ScanDecl}
-use Rattle.logical_dag.specs.declared.dag.Stored.{Stored}
 use Rattle.logical_trees.specs.declared.logic_op.LogicOp.{LogicOp}
 use Rattle.logical_trees.specs.declared.logic_op.LogicOp.TheVariants.{Filter, Project, Group, Process, Reduce, Top}
 use Rattle.logical_trees.specs.Tree.{columns_of}
@@ -26,7 +24,11 @@ use Rattle.column_ranks.specs.RisingLemmas.{rising_range, rank_at, rank_shift}
 use Rattle.list_lemmas.specs.Bags.{same_permuted}
 use Rattle.column_ranks.specs.RowLemmas.{holds_moved, projected_moved, items_moved, agree_moved, values, merged_values}
 use Rattle.outer_joins.specs.declared.side.Side.{Side}
-use Rattle.script_meaning.specs.Script.{Call, Grouping, Query}
+use Rattle.placed_trees.specs.declared.call.Call.{Call}
+use Rattle.placed_trees.specs.declared.query.Grouping.{Grouping}
+use Rattle.placed_trees.specs.declared.query.Query.{Query}
+use Rattle.placed_trees.specs.declared.source.StoredPlaces.{StoredPlaces}
+use Rattle.placed_trees.specs.declared.source.Stream.{Stream}
 use Rattle.script_meaning.specs.Meaning.{places, Table, table, no_table, where_rows, where_opt, join_rows, key_places, group_rows, group_opt, item_rows, distinct_opt, order_list, top_opt, outer_rows, process_rows, reduce_rows, combine_rows, query_rows, with_order, unless_stored}
 use Rattle.script_meaning.specs.Part.{Part, cols_at, number, nothing, scanned, referred, over, join_on, joined_part, call_at, order_at, process_part, reduce_part, combine_on, combine_part, filter_opt, numbered, group_part, listed, grouping_opt, project_part, unique_opt, first_opt, query_part, stored_part}
 use Rattle.script_meaning.specs.Laws.{IsOuterCall}
@@ -35,10 +37,10 @@ use Rattle.script_meaning.proofs.Grouped.{group_moved}
 use Rattle.script_meaning.proofs.Moving.{reduced_moved, combined_moved}
 use Rattle.script_meaning.proofs.Outer.{outer_is}
 
-module _ (ops : Operators) (input : ScanDecl → Bag) (rows_of : ℕ → Bag) where
+module _ (ops : Operators) (input : Stream → Bag) (rows_of : ℕ → Bag) where
   -- the sources have what the part draws on where it stands at s and c, and its columns are below 128
   pub record Reads (a : Part) (name : ℕ → ℕ) (s c : ℕ) (from : Sources) : Type 0 where
-    pub scans : (i : ℕ) (d : ScanDecl) → slice_get a.scans i ≡ Some d → bag_at from.scans (s + i) ≡ input d
+    pub scans : (i : ℕ) (d : Stream) → slice_get a.scans i ≡ Some d → bag_at from.scans (s + i) ≡ input d
     pub refs : (k : ℕ) → has a.refs k ≡ true → bag_at from.shared (name k) ≡ rows_of k
     pub room : c + a.count ≤ 128
 
@@ -85,7 +87,7 @@ module _ (ops : Operators) (input : ScanDecl → Bag) (rows_of : ℕ → Bag) wh
       over_tied a A t a.cols a.count (λ c. Filter (moved (number a c) e)) (where_rows e A) (omega arith) t.width refl (filter_opt_shaped (Some e) a t.shape)
       (λ c l h. same_permuted _ _ (λ i. filter (λ r. holds_moved (number a c) (places A.width) (cols_at a c) h e r i) A.rows))
 
-  pub stored_tied : (stored : Option Stored) (a : Part) (A : Table) → Tied a A → Tied (stored_part stored a) (with_order (unless_stored stored A.order) A)
+  pub stored_tied : (stored : Option StoredPlaces) (a : Part) (A : Table) → Tied a A → Tied (stored_part stored a) (with_order (unless_stored stored A.order) A)
   stored_tied stored a A t = record {
     width = t.width;
     order = ap (unless_stored stored) t.order;
@@ -152,7 +154,7 @@ module _ (ops : Operators) (input : ScanDecl → Bag) (rows_of : ℕ → Bag) wh
     rows = λ name s c from r. (bag_at from.shared 0, IsPermutation-refl _, IsPermutation-refl _);
   }
 
-  pub scanned_tied : (d : ScanDecl) → Tied (scanned d) (table (length d.schema) (input d))
+  pub scanned_tied : (d : Stream) → Tied (scanned d) (table (length d.schema) (input d))
   scanned_tied d = record {
     width = length-range_with_len 0 (length d.schema);
     order = refl;

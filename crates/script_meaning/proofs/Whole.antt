@@ -11,15 +11,23 @@ use Rattle.col_sets.specs.Sets.{has, count}
 use Rattle.col_sets.specs.Columns.{has-filter}
 use Rattle.col_sets.specs.Tests.{either, both, or_left, or_right, from_test, to_test}
 use Rattle.col_sets.specs.declared.dir.Dir.{Dir}
-use Rattle.logical_dag.specs.declared.dag.ScanDecl.{ScanDecl}
-use Rattle.logical_dag.specs.declared.dag.Stored.{Stored}
 use Rattle.logical_trees.specs.Tree.{Expression, columns_of}
 use Rattle.logical_trees.specs.Rows.{order_of}
 use Rattle.logical_trees.specs.Formed.{IsOrderOver}
 use Rattle.logical_dag.specs.Scripts.{scans_of, IsWritten, IsStoredOver}
 use Rattle.column_ranks.specs.Rising.{IsRising}
 use Rattle.column_ranks.specs.RisingLemmas.{rising_from, rising_below, rising_range, rising_filter}
-use Rattle.script_meaning.specs.Script.{Source, from_result, from_stream, Joined, Beside, inners, outer, Command, extract, select, process, reduce, combine, output, gives, Statement, input_at}
+use Rattle.placed_trees.specs.declared.command.Command.{Command}
+use Rattle.placed_trees.specs.declared.command.Command.TheVariants.{Extract, Select, Process, Reduce, Combine, Output}
+use Rattle.placed_trees.specs.declared.query.Beside.{Beside}
+use Rattle.placed_trees.specs.declared.query.Beside.TheVariants.{Inners, Outer}
+use Rattle.placed_trees.specs.declared.query.Joined.{Joined}
+use Rattle.placed_trees.specs.declared.source.Source.{Source}
+use Rattle.placed_trees.specs.declared.source.Source.TheVariants.{FromResult, FromStream}
+use Rattle.placed_trees.specs.declared.source.StoredPlaces.{StoredPlaces}
+use Rattle.placed_trees.specs.declared.source.Stream.{Stream}
+use Rattle.placed_trees.specs.declared.statement.Statement.{Statement}
+use Rattle.placed_trees.specs.Inputs.{gives, input_at}
 use Rattle.script_meaning.specs.Part.{Part, cols_at, number, stored_at}
 use Rattle.script_meaning.specs.Bound.{mentions, is_shared, stands, found, placed, source_part, from_part, beside_part, bound, bound_from, parts_of}
 use Rattle.script_meaning.specs.Dag.{or_nothing, part_at, outputs_from, outs_of, reached, kept_of, place_in, scans_of_all, trees_from, column_order, column_stored, dag_of}
@@ -65,14 +73,14 @@ place_before a b (x ∷ ks) r (suc i) k j h m l = go (x == j) refl (λ q. place_
 
 -- ---- the parts of all statements
 
-keeps_length : (all : List ℕ) (earlier : List Statement) (env : List Part) (rest : List Statement) → length (bound_from all earlier env rest) ≡ length env + length rest
+pub keeps_length : (all : List ℕ) (earlier : List Statement) (env : List Part) (rest : List Statement) → length (bound_from all earlier env rest) ≡ length env + length rest
 keeps_length all earlier env [] = omega arith
 keeps_length all earlier env (s ∷ rest) =
     let h = keeps_length all (earlier ++ s ∷ []) (env ++ bound all earlier env s.command ∷ []) rest in
     let m = length_push env (bound all earlier env s.command) in
     omega (arith, h, m)
 
-env_keeps : (all : List ℕ) (earlier : List Statement) (env : List Part) (rest : List Statement) (k : ℕ) → k < length env → slice_get (bound_from all earlier env rest) k ≡ slice_get env k
+pub env_keeps : (all : List ℕ) (earlier : List Statement) (env : List Part) (rest : List Statement) (k : ℕ) → k < length env → slice_get (bound_from all earlier env rest) k ≡ slice_get env k
 env_keeps all earlier env [] k l = refl
 env_keeps all earlier env (s ∷ rest) k l =
     let m = length_push env (bound all earlier env s.command) in
@@ -80,13 +88,13 @@ env_keeps all earlier env (s ∷ rest) k l =
     env_keeps all (earlier ++ s ∷ []) (env ++ bound all earlier env s.command ∷ []) rest k more ∙ get_below env (bound all earlier env s.command) k l
 
 module _ (width_of : ℕ → ℕ) where
-  abbrev AreBuilt : List Part → Type 0
+  abbrev pub AreBuilt : List Part → Type 0
   AreBuilt env = (k : ℕ) (b : Part) → slice_get env k ≡ Some b → IsBuilt width_of b
 
-  abbrev AreWide : List Part → Type 0
+  abbrev pub AreWide : List Part → Type 0
   AreWide env = (k : ℕ) (b : Part) → slice_get env k ≡ Some b → width_of k ≡ length b.cols
 
-  placed_built : (all : List ℕ) (env : List Part) → AreBuilt env → AreWide env → (i : Option ℕ) → IsSomeAnd i (λ k. k < length env) → IsBuilt width_of (placed all env i)
+  pub placed_built : (all : List ℕ) (env : List Part) → AreBuilt env → AreWide env → (i : Option ℕ) → IsSomeAnd i (λ k. k < length env) → IsBuilt width_of (placed all env i)
   placed_built all env h w None l = absurd l
   placed_built all env h w (Some k) l = go (slice_get env k) refl
     where
@@ -98,31 +106,31 @@ module _ (width_of : ℕ → ℕ) where
           at true = referred_built width_of k b (h k b e) (w k b e)
           at false = h k b e
 
-  source_built : (all : List ℕ) (earlier : List Statement) (env : List Part) → AreBuilt env → AreWide env → (source : Source) → IsSourceThere earlier env source
+  pub source_built : (all : List ℕ) (earlier : List Statement) (env : List Part) → AreBuilt env → AreWide env → (source : Source) → IsSourceThere earlier env source
       → IsBuilt width_of (source_part all earlier env source)
-  source_built all earlier env h w (from_result i) l = placed_built all env h w (input_at earlier i) l
-  source_built all earlier env h w (from_stream d) l = scanned_built width_of d l
+  source_built all earlier env h w (FromResult i) l = placed_built all env h w (input_at earlier i) l
+  source_built all earlier env h w (FromStream d) l = scanned_built width_of d l
 
-  joins_built : (all : List ℕ) (earlier : List Statement) (env : List Part) → AreBuilt env → AreWide env → (joins : List Joined) (a : Part) → IsBuilt width_of a → AreJoinsPlaced all earlier env a joins
+  pub joins_built : (all : List ℕ) (earlier : List Statement) (env : List Part) → AreBuilt env → AreWide env → (joins : List Joined) (a : Part) → IsBuilt width_of a → AreJoinsPlaced all earlier env a joins
       → IsBuilt width_of (from_part all earlier env a joins)
   joins_built all earlier env h w [] a b p = b
   joins_built all earlier env h w (j ∷ joins) a b p =
       joins_built all earlier env h w joins _ (joined_built width_of j.on a _ b (source_built all earlier env h w j.source p.0) p.1) p.2
 
-  beside_all_built : (all : List ℕ) (earlier : List Statement) (env : List Part) → AreBuilt env → AreWide env → (beside : Beside) (a : Part) → IsBuilt width_of a → IsBesidePlaced all earlier env a beside
+  pub beside_all_built : (all : List ℕ) (earlier : List Statement) (env : List Part) → AreBuilt env → AreWide env → (beside : Beside) (a : Part) → IsBuilt width_of a → IsBesidePlaced all earlier env a beside
       → IsBuilt width_of (beside_part all earlier env a beside)
-  beside_all_built all earlier env h w (inners joins) a b p = joins_built all earlier env h w joins a b p
-  beside_all_built all earlier env h w (outer side call j) a b p = combine_built width_of j.on None None call a _ b (source_built all earlier env h w j.source p.0) p.1 tt tt
+  beside_all_built all earlier env h w (Inners joins) a b p = joins_built all earlier env h w joins a b p
+  beside_all_built all earlier env h w (Outer side call j) a b p = combine_built width_of j.on None None call a _ b (source_built all earlier env h w j.source p.0) p.1 tt tt
 
-  bound_built : (all : List ℕ) (earlier : List Statement) (env : List Part) → AreBuilt env → AreWide env → (c : Command) → IsCommandPlaced all earlier env c → IsBuilt width_of (bound all earlier env c)
-  bound_built all earlier env h w (extract d) p = scanned_built width_of d p
-  bound_built all earlier env h w (select q) p =
+  pub bound_built : (all : List ℕ) (earlier : List Statement) (env : List Part) → AreBuilt env → AreWide env → (c : Command) → IsCommandPlaced all earlier env c → IsBuilt width_of (bound all earlier env c)
+  bound_built all earlier env h w (Extract d) p = scanned_built width_of d p
+  bound_built all earlier env h w (Select q) p =
       query_built width_of q _ (beside_all_built all earlier env h w q.beside _ (source_built all earlier env h w q.source p.0) p.1) p.2
-  bound_built all earlier env h w (process source call) p = process_built width_of call _ (source_built all earlier env h w source p)
-  bound_built all earlier env h w (reduce source on presort call) p = reduce_built width_of on presort call _ (source_built all earlier env h w source p.0) p.1 p.2
-  bound_built all earlier env h w (combine source before other after on call) p =
+  bound_built all earlier env h w (Process source call) p = process_built width_of call _ (source_built all earlier env h w source p)
+  bound_built all earlier env h w (Reduce source on presort call) p = reduce_built width_of on presort call _ (source_built all earlier env h w source p.0) p.1 p.2
+  bound_built all earlier env h w (Combine source before other after on call) p =
       combine_built width_of on before after call _ _ (source_built all earlier env h w source p.0) (source_built all earlier env h w other p.1) p.2 p.3 p.4
-  bound_built all earlier env h w (output source stream stored) p = stored_built width_of stored _ (placed_built all env h w (input_at earlier source) p.0) p.1
+  bound_built all earlier env h w (Output o) p = stored_built width_of o.stored _ (placed_built all env h w (input_at earlier o.source) p.0) p.1
 
   push_built : (env : List Part) (b : Part) → AreBuilt env → IsBuilt width_of b → AreBuilt (env ++ b ∷ [])
   push_built env b h new k x e = at (nat_lt k (length env)) refl (k == length env) refl
@@ -137,14 +145,14 @@ module _ (width_of : ℕ → ℕ) where
           let w : length env < k = grind (arith, nat_tests, p, q) in
           let f : None ≡ Some x = sym (get_past env b k w) ∙ e in absurd (cc)
 
-  all_built : (all : List ℕ) (earlier : List Statement) (env : List Part) (rest : List Statement) → ArePlaced all earlier env rest → AreBuilt env → AreWide (bound_from all earlier env rest)
+  pub all_built : (all : List ℕ) (earlier : List Statement) (env : List Part) (rest : List Statement) → ArePlaced all earlier env rest → AreBuilt env → AreWide (bound_from all earlier env rest)
       → AreBuilt (bound_from all earlier env rest)
   all_built all earlier env [] p h w = h
   all_built all earlier env (s ∷ rest) p h w =
       all_built all (earlier ++ s ∷ []) _ rest p.1
       (push_built env _ h (bound_built all earlier env h (λ k b e. w k b (env_keeps all earlier env (s ∷ rest) k (slice_get_within env k b e) ∙ e)) s.command p.0)) w
 
-outs_below : (n : ℕ) (rest : List Statement) (k : ℕ) → has (outputs_from n rest) k ≡ true → k < n + length rest
+pub outs_below : (n : ℕ) (rest : List Statement) (k : ℕ) → has (outputs_from n rest) k ≡ true → k < n + length rest
 outs_below n [] k h = absurd (cc)
 outs_below n (s ∷ rest) k h = go (gives s.command) (λ q. let l : k < n + 1 + length rest = outs_below (n + 1) rest k q in omega arith) h
   where
@@ -157,7 +165,7 @@ outs_below n (s ∷ rest) k h = go (gives s.command) (λ q. let l : k < n + 1 + 
         which (inr q) = more q
 
 -- a stored output has no order in columns where it has none by place
-unordered : (f : ℕ → ℕ) (stored : Option Stored) (order : Option (List (ℕ × Dir))) → IfSome stored (λ s. order ≡ None)
+unordered : (f : ℕ → ℕ) (stored : Option StoredPlaces) (order : Option (List (ℕ × Dir))) → IfSome stored (λ s. order ≡ None)
     → IfSome (stored_at f stored) (λ s. option_map (map {B = ℕ × Dir} (λ k. (f k.0, k.1))) order ≡ None)
 unordered f None order h = tt
 unordered f (Some s) order h = ap (option_map (map {B = ℕ × Dir} (λ k. (f k.0, k.1)))) h
@@ -208,7 +216,7 @@ module _ (name : ℕ → ℕ) (env : List Part) where
     trees_wide (k ∷ ks) s h =
         map-append (λ (x : ℕ × List ℕ). length x.1) (scans_of ((part_at env k).tree name s 0)) (flat_map scans_of (trees_from name env (s + length (part_at env k).scans) ks))
         ∙ ap₂ (λ l m. l ++ m) ((built k (h k (or_left _ _ (to_test k k refl)))).widths name s 0) (trees_wide ks (s + length (part_at env k).scans) (λ j q. h j (or_right _ _ q)))
-        ∙ sym (map-append (λ (d : ScanDecl). length d.schema) (part_at env k).scans (scans_of_all env ks))
+        ∙ sym (map-append (λ (d : Stream). length d.schema) (part_at env k).scans (scans_of_all env ks))
 
     scans_declared : (ks : List ℕ) → ((k : ℕ) → has ks k ≡ true → k < length env) → AreDeclared (scans_of_all env ks)
     scans_declared [] h = tt
@@ -325,7 +333,7 @@ gives_bindable script fits is_placed = record {
         ap (map (λ (x : ℕ × List ℕ). length x.1)) (flat_map-append scans_of (dag_of script).shared (dag_of script).outputs)
         ∙ map-append (λ (x : ℕ × List ℕ). length x.1) (flat_map scans_of (dag_of script).shared) (flat_map scans_of (dag_of script).outputs)
         ∙ ap₂ (λ l m. l ++ m) (trees_wide name env width_of built kept 0 kept_below) (trees_wide name env width_of built outs (length (scans_of_all env kept)) outs_in)
-        ∙ sym (map-append (λ (d : ScanDecl). length d.schema) (scans_of_all env kept) (scans_of_all env outs))
+        ∙ sym (map-append (λ (d : Stream). length d.schema) (scans_of_all env kept) (scans_of_all env outs))
 
     below : AllBelow 0 env
     below = all_below (mentions [] script) [] [] script tt

@@ -8,7 +8,11 @@ use Rattle.logical_dag.specs.declared.dag.ScanDecl.{ScanDecl}
 use Rattle.logical_dag.specs.declared.dag.Stored.{Stored}
 use Rattle.logical_dag.specs.Scripts.{scans_of}
 use Rattle.logical_trees.specs.Tree.{Expression}
-use Rattle.script_meaning.specs.Script.{Statement, Command, output, gives}
+use Rattle.placed_trees.specs.declared.command.Command.{Command}
+use Rattle.placed_trees.specs.declared.command.Command.TheVariants.{Output}
+use Rattle.placed_trees.specs.declared.source.Stream.{Stream}
+use Rattle.placed_trees.specs.declared.statement.Statement.{Statement}
+use Rattle.placed_trees.specs.Inputs.{gives}
 use Rattle.script_meaning.specs.Part.{Part, nothing, number, stored_at}
 use Rattle.script_meaning.specs.Bound.{parts_of}
 
@@ -40,7 +44,7 @@ abbrev pub place_in : List ℕ → ℕ → ℕ
 place_in kept k = position_or_len (λ x. x == k) kept
 
 -- the scans of these statements' trees, in tree order
-abbrev pub scans_of_all : List Part → List ℕ → List ScanDecl
+abbrev pub scans_of_all : List Part → List ℕ → List Stream
 scans_of_all env ks = flat_map (λ k. (part_at env k).scans) ks
 
 -- their trees, the scans being numbered from s on through all of them, and the columns of each from 0
@@ -49,7 +53,7 @@ trees_from name env s [] = []
 trees_from name env s (k ∷ ks) = (part_at env k).tree name s 0 ∷ trees_from name env (s + length (part_at env k).scans) ks
 
 abbrev pub stream_in : Command → List ℕ
-stream_in (output source stream stored) = stream
+stream_in (Output w) = w.stream
 stream_in c = []
 
 abbrev pub stream_at : List Statement → ℕ → List ℕ
@@ -63,20 +67,29 @@ column_order b = option_map (map (λ k. (number b 0 k.0, k.1))) b.order
 abbrev pub column_stored : Part → Option Stored
 column_stored b = stored_at (number b 0) b.stored
 
--- a scan with its declaration in the columns of its node
-abbrev pub declared : ScanDecl → List ℕ → ScanDecl
-declared d cols = record d { stored = stored_at (λ p. get_or cols p 128) d.stored }
+-- the byte between the fields of what is written
+abbrev pub delimiter_in : Command → ℕ
+delimiter_in (Output w) = w.delimiter
+delimiter_in c = 0
+
+abbrev pub delimiter_at : List Statement → ℕ → ℕ
+delimiter_at script k = option_map_or (λ s. delimiter_in s.command) (slice_get script k) 0
+
+-- the scan of a stream, with its declaration in the columns of its node
+abbrev pub declared : Stream → List ℕ → ScanDecl
+declared d cols = record { stream = d.name; op = d.op; args = d.args; schema = d.schema; stored = stored_at (λ p. get_or cols p 128) d.stored }
 
 -- so each of them, beside the nodes
-abbrev pub declared_all : List ScanDecl → List (ℕ × List ℕ) → List ScanDecl
+abbrev pub declared_all : List Stream → List (ℕ × List ℕ) → List ScanDecl
 declared_all [] nodes = []
-declared_all (d ∷ scans) [] = d ∷ declared_all scans []
+declared_all (d ∷ scans) [] = declared d [] ∷ declared_all scans []
 declared_all (d ∷ scans) (s ∷ nodes) = declared d s.1 ∷ declared_all scans nodes
 
 pub record ScriptDag : Type 0 where
   pub scans : List ScanDecl
   pub shared : List Expression
   pub streams : List (List ℕ)
+  pub delimiters : List ℕ
   pub orders : List (Option (List (ℕ × Dir)))
   pub stored : List (Option Stored)
   pub outputs : List Expression
@@ -93,6 +106,7 @@ dag_at script env outs kept = record {
   scans = declared_all (scans_of_all env kept ++ scans_of_all env outs) (flat_map scans_of (kept_trees env kept ++ out_trees env outs kept));
   shared = kept_trees env kept;
   streams = map (stream_at script) outs;
+  delimiters = map (delimiter_at script) outs;
   orders = map (λ k. column_order (part_at env k)) outs;
   stored = map (λ k. column_stored (part_at env k)) outs;
   outputs = out_trees env outs kept;

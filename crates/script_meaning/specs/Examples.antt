@@ -1,5 +1,5 @@
 -- Some scripts, their Dags, and an outer join.
-use Rattle.std.specs.Prelude.{◌≡◌, ℕ, pos, false, List, [], ◌∷◌, Some, None}
+use Rattle.std.specs.Prelude.{◌≡◌, ℕ, pos, false, List, [], ◌∷◌, Option, Some, None}
 use Rattle.col_sets.specs.declared.dir.Dir.TheVariants.{Up, Down}
 use Rattle.scope_value.specs.declared.value.Value.{Value}
 use Rattle.scope_value.specs.declared.value.Value.TheVariants.{Int, Null}
@@ -10,11 +10,17 @@ use Rattle.script_trees.specs.declared.agg.AggKind.TheVariants.{Count}
 use Rattle.scope_expr.specs.declared.expr.Expr.{Expr}
 use Rattle.scope_expr.specs.declared.expr.Expr.TheVariants.{Literal, Col, Pair}
 use Rattle.logical_dag.specs.declared.dag.ScanDecl.{ScanDecl}
-use Rattle.logical_dag.specs.declared.dag.Stored.{Stored}
 use Rattle.logical_trees.specs.declared.logic_op.LogicOp.TheVariants.{Scan, Ref, Filter, Project, Join, Group, Top}
 use Rattle.logical_trees.specs.Tree.{leaf, one, two}
 use Rattle.logical_trees.specs.Rows.{Bag, agree_on}
-use Rattle.script_meaning.specs.Script.{from_result, from_stream, inners, Query, extract, select, output, Statement}
+use Rattle.placed_trees.specs.declared.command.Command.{Command}
+use Rattle.placed_trees.specs.declared.command.Command.TheVariants.{Extract, Select, Output}
+use Rattle.placed_trees.specs.declared.query.Beside.TheVariants.{Inners}
+use Rattle.placed_trees.specs.declared.query.Query.{Query}
+use Rattle.placed_trees.specs.declared.source.Source.TheVariants.{FromResult, FromStream}
+use Rattle.placed_trees.specs.declared.source.StoredPlaces.{StoredPlaces}
+use Rattle.placed_trees.specs.declared.source.Stream.{Stream}
+use Rattle.placed_trees.specs.declared.statement.Statement.{Statement}
 use Rattle.script_meaning.specs.Meaning.{places, outer_bag}
 use Rattle.outer_joins.specs.declared.side.Side.TheVariants.{Left, Right, Full}
 use Rattle.script_meaning.specs.Dag.{dag_of}
@@ -31,34 +37,42 @@ abbrev pub a_column : Column
 a_column = record { name = []; kind = Long }
 
 -- a stream of two columns, by its number
-abbrev pub stream : ℕ → ScanDecl
-stream n = record { stream = n ∷ []; op = 0; args = []; schema = a_column ∷ a_column ∷ []; stored = None }
+abbrev pub stream : ℕ → Stream
+stream n = record { name = n ∷ []; op = 0; args = []; schema = a_column ∷ a_column ∷ []; stored = None }
+
+-- the scan of it
+abbrev pub scan : ℕ → ScanDecl
+scan n = record { stream = n ∷ []; op = 0; args = []; schema = a_column ∷ a_column ∷ []; stored = None }
 
 abbrev pub plain : Query
-plain = record { source = from_result None; beside = inners []; test = None; group = None; items = []; having = None; distinct = false; order = None; top = None }
+plain = record { source = FromResult None; beside = Inners []; test = None; group = None; items = []; having = None; distinct = false; order = None; top = None }
+
+-- an OUTPUT to stream 9, with commas between fields
+abbrev pub written : Option (List ℕ) → Option StoredPlaces → Command
+written source stored = Output (record { source = source; stream = 9 ∷ []; delimiter = 44; stored = stored })
 
 -- 1 = EXTRACT; SELECT x's first and y's second FROM 1 AS x JOIN 1 AS y ON their first columns WHERE x's second < 7; OUTPUT
 abbrev pub self_join : List Statement
 self_join =
-    record { name = Some 1; command = extract (stream 0) }
+    record { name = Some (1 ∷ []); command = Extract (stream 0) }
     ∷ record {
       name = None;
-      command = select (record plain {
-        source = from_result (Some 1);
-        beside = inners (record { source = from_result (Some 1); on = (0, 0) ∷ [] } ∷ []);
+      command = Select (record plain {
+        source = FromResult (Some (1 ∷ []));
+        beside = Inners (record { source = FromResult (Some (1 ∷ [])); on = (0, 0) ∷ [] } ∷ []);
         test = Some (small 1);
         items = col 0 ∷ col 3 ∷ [];
       });
     }
-    ∷ record { name = None; command = output None (9 ∷ []) None } ∷ []
+    ∷ record { name = None; command = written None None } ∷ []
 
 -- EXTRACT; 1 = SELECT TOP 3 of the count by the first column, HAVING the count < 7 ORDER BY it, downward; OUTPUT 1
 abbrev pub counted : List Statement
 counted =
-    record { name = None; command = extract (stream 0) }
+    record { name = None; command = Extract (stream 0) }
     ∷ record {
-      name = Some 1;
-      command = select (record plain {
+      name = Some (1 ∷ []);
+      command = Select (record plain {
         group = Some (record { written = 0 ∷ []; aggs = (Count, None) ∷ [] });
         items = col 0 ∷ col 1 ∷ [];
         having = Some (small 1);
@@ -66,37 +80,37 @@ counted =
         top = Some 3;
       });
     }
-    ∷ record { name = None; command = output (Some 1) (9 ∷ []) None } ∷ []
+    ∷ record { name = None; command = written (Some (1 ∷ [])) None } ∷ []
 
 -- 1 = EXTRACT; 2 = SELECT FROM 1; twice a mention of 2 that no output reaches; OUTPUT 1, which is mentioned twice
 abbrev pub half_used : List Statement
 half_used =
-    record { name = Some 1; command = extract (stream 0) }
-    ∷ record { name = Some 2; command = select (record plain { source = from_stream (stream 1); items = col 1 ∷ [] }) }
-    ∷ record { name = Some 3; command = select (record plain { source = from_result (Some 2); beside = inners (record { source = from_result (Some 2); on = (0, 0) ∷ [] } ∷ []); items = col 0 ∷ [] }) }
-    ∷ record { name = Some 4; command = select (record plain { source = from_result (Some 1); items = col 1 ∷ [] }) }
-    ∷ record { name = None; command = output (Some 1) (9 ∷ []) None } ∷ []
+    record { name = Some (1 ∷ []); command = Extract (stream 0) }
+    ∷ record { name = Some (2 ∷ []); command = Select (record plain { source = FromStream (stream 1); items = col 1 ∷ [] }) }
+    ∷ record { name = Some (3 ∷ []); command = Select (record plain { source = FromResult (Some (2 ∷ [])); beside = Inners (record { source = FromResult (Some (2 ∷ [])); on = (0, 0) ∷ [] } ∷ []); items = col 0 ∷ [] }) }
+    ∷ record { name = Some (4 ∷ []); command = Select (record plain { source = FromResult (Some (1 ∷ [])); items = col 1 ∷ [] }) }
+    ∷ record { name = None; command = written (Some (1 ∷ [])) None } ∷ []
 
 -- stored by the second column, and in the order of the first
-abbrev pub by_second : Stored
+abbrev pub by_second : StoredPlaces
 by_second = record { hash = 1 ∷ []; sorted = Some ((0, Up) ∷ []) }
 
 -- 1 = EXTRACT; 2 = EXTRACT of a stored stream; SELECT 1's first and 2's second FROM 1 JOIN 2 ON their first columns ORDER BY
 -- the first; OUTPUT, stored
 abbrev pub stored_join : List Statement
 stored_join =
-    record { name = Some 1; command = extract (stream 0) }
-    ∷ record { name = Some 2; command = extract (record (stream 1) { stored = Some by_second }) }
+    record { name = Some (1 ∷ []); command = Extract (stream 0) }
+    ∷ record { name = Some (2 ∷ []); command = Extract (record (stream 1) { stored = Some by_second }) }
     ∷ record {
       name = None;
-      command = select (record plain {
-        source = from_result (Some 1);
-        beside = inners (record { source = from_result (Some 2); on = (0, 0) ∷ [] } ∷ []);
+      command = Select (record plain {
+        source = FromResult (Some (1 ∷ []));
+        beside = Inners (record { source = FromResult (Some (2 ∷ [])); on = (0, 0) ∷ [] } ∷ []);
         items = col 0 ∷ col 3 ∷ [];
         order = Some ((0, Up) ∷ []);
       });
     }
-    ∷ record { name = None; command = output None (9 ∷ []) (Some by_second) } ∷ []
+    ∷ record { name = None; command = written None (Some by_second) } ∷ []
 
 abbrev pub row : List ℕ → List Value
 row [] = []
@@ -116,9 +130,10 @@ pub record Rules : Type 0 where
   -- a result mentioned twice is shared, and each mention numbers its columns again
   pub shared : dag_of self_join
       ≡ record {
-        scans = stream 0 ∷ [];
+        scans = scan 0 ∷ [];
         shared = leaf (Scan 0 (0 ∷ 1 ∷ [])) ∷ [];
         streams = (9 ∷ []) ∷ [];
+        delimiters = 44 ∷ [];
         orders = None ∷ [];
         stored = None ∷ [];
         outputs = one (Project (col 0 ∷ col 3 ∷ []) (4 ∷ 5 ∷ []))
@@ -127,9 +142,10 @@ pub record Rules : Type 0 where
   -- a result mentioned once stands in its consumer; keys keep their numbers, aggregates and items are numbered in post-order
   pub clauses : dag_of counted
       ≡ record {
-        scans = stream 0 ∷ [];
+        scans = scan 0 ∷ [];
         shared = [];
         streams = (9 ∷ []) ∷ [];
+        delimiters = 44 ∷ [];
         orders = Some ((4, Down) ∷ []) ∷ [];
         stored = None ∷ [];
         outputs = one (Top (record { n = 3; order = (4, Down) ∷ [] }))
@@ -138,13 +154,14 @@ pub record Rules : Type 0 where
       }
   -- what no output reaches is left out, with its scans; a mention in a statement that none reaches counts all the same
   pub unused : dag_of half_used
-      ≡ record { scans = stream 0 ∷ []; shared = leaf (Scan 0 (0 ∷ 1 ∷ [])) ∷ []; streams = (9 ∷ []) ∷ []; orders = None ∷ []; stored = None ∷ []; outputs = leaf (Ref 0 (0 ∷ 1 ∷ [])) ∷ [] }
+      ≡ record { scans = scan 0 ∷ []; shared = leaf (Scan 0 (0 ∷ 1 ∷ [])) ∷ []; streams = (9 ∷ []) ∷ []; delimiters = 44 ∷ []; orders = None ∷ []; stored = None ∷ []; outputs = leaf (Ref 0 (0 ∷ 1 ∷ [])) ∷ [] }
   -- declarations are in the columns of the scan and of the output, and a stored output has no order
   pub declared : dag_of stored_join
       ≡ record {
-        scans = stream 0 ∷ record (stream 1) { stored = Some (record { hash = 3 ∷ []; sorted = Some ((2, Up) ∷ []) }) } ∷ [];
+        scans = scan 0 ∷ record (scan 1) { stored = Some (record { hash = 3 ∷ []; sorted = Some ((2, Up) ∷ []) }) } ∷ [];
         shared = [];
         streams = (9 ∷ []) ∷ [];
+        delimiters = 44 ∷ [];
         orders = None ∷ [];
         stored = Some (record { hash = 5 ∷ []; sorted = Some ((4, Up) ∷ []) }) ∷ [];
         outputs = one (Project (col 0 ∷ col 3 ∷ []) (4 ∷ 5 ∷ []))

@@ -9,10 +9,20 @@ use Rattle.logical_dag.specs.declared.dag.ScanDecl.{ScanDecl}
 use Rattle.logical_trees.specs.declared.args.CallArgs.{CallArgs}
 use Rattle.logical_trees.specs.Rows.{Bag, agree_on, combined}
 use Rattle.logical_dag.specs.DagMeaning.{in_order_opt, scan_rows, TreesGive}
-use Rattle.script_meaning.specs.Script.{Call, Beside, inners, outer, Command, select, Statement}
+use Rattle.placed_trees.specs.declared.call.Call.{Call}
+use Rattle.placed_trees.specs.declared.command.Command.{Command}
+use Rattle.placed_trees.specs.declared.command.Command.TheVariants.{Select}
+use Rattle.placed_trees.specs.declared.query.Beside.{Beside}
+use Rattle.placed_trees.specs.declared.query.Beside.TheVariants.{Inners, Outer}
+use Rattle.placed_trees.specs.declared.source.Stream.{Stream}
+use Rattle.placed_trees.specs.declared.statement.Statement.{Statement}
 use Rattle.script_meaning.specs.Meaning.{Table, or_no_table, source_rows, outer_bag, result, results, places}
 use Rattle.script_meaning.specs.Bound.{parts_of}
 use Rattle.script_meaning.specs.Dag.{part_at, ScriptDag, dag_of, outs_of}
+
+-- the rows of a stream, whatever is declared of how it is stored
+abbrev pub stream_rows : (ScanDecl → Bag) → Stream → Bag
+stream_rows input d = input (record { stream = d.name; op = d.op; args = d.args; schema = d.schema; stored = None })
 
 -- the Dag gives these rows to its outputs, where its scans have those
 abbrev pub Gives : Operators → (ScanDecl → Bag) → ScriptDag → List Bag → Type 0
@@ -26,7 +36,7 @@ abbrev pub written_at : List Table → ℕ → Bag
 written_at done k = let A = table_at done k in in_order_opt A.order (places A.width) A.rows
 
 abbrev pub results_of : Operators → (ScanDecl → Bag) → List Statement → List Table
-results_of ops input script = results ops (scan_rows input) [] [] script
+results_of ops input script = results ops (stream_rows input) [] [] script
 
 abbrev pub meaning : Operators → (ScanDecl → Bag) → List Statement → List Bag
 meaning ops input script = map (written_at (results_of ops input script)) (outs_of script)
@@ -36,23 +46,23 @@ pub record IsOuterCall (ops : Operators) (side : Side) (call : Call) (m n : ℕ)
   pub columns : length call.output ≡ m + n
   pub gives : (A B : Bag) → combines_at ops call.op call.args A B ≡ outer_pairs side m n A B
 
-abbrev pub IsBesideTold : Operators → (ScanDecl → Bag) → List Statement → List Table → Table → Beside → Type 0
-IsBesideTold ops input earlier done A (inners joins) = Unit {0}
-IsBesideTold ops input earlier done A (outer side call j) = IsOuterCall ops side call A.width (source_rows input earlier done j.source).width
+abbrev pub IsBesideTold : Operators → (Stream → Bag) → List Statement → List Table → Table → Beside → Type 0
+IsBesideTold ops input earlier done A (Inners joins) = Unit {0}
+IsBesideTold ops input earlier done A (Outer side call j) = IsOuterCall ops side call A.width (source_rows input earlier done j.source).width
 
-abbrev pub IsCommandTold : Operators → (ScanDecl → Bag) → List Statement → List Table → Command → Type 0
-IsCommandTold ops input earlier done (select q) = IsBesideTold ops input earlier done (source_rows input earlier done q.source) q.beside
+abbrev pub IsCommandTold : Operators → (Stream → Bag) → List Statement → List Table → Command → Type 0
+IsCommandTold ops input earlier done (Select q) = IsBesideTold ops input earlier done (source_rows input earlier done q.source) q.beside
 IsCommandTold ops input earlier done c = Unit {0}
 
 -- so it is for each outer join of these statements
-abbrev pub AreOuterTold : Operators → (ScanDecl → Bag) → List Statement → List Table → List Statement → Type 0
+abbrev pub AreOuterTold : Operators → (Stream → Bag) → List Statement → List Table → List Statement → Type 0
 AreOuterTold ops input earlier done [] = Unit {0}
 AreOuterTold ops input earlier done (s ∷ rest) =
     IsCommandTold ops input earlier done s.command × AreOuterTold ops input (earlier ++ s ∷ []) (done ++ result ops input earlier done s.command ∷ []) rest
 
 -- and of a script
 abbrev pub AreTold : Operators → (ScanDecl → Bag) → List Statement → Type 0
-AreTold ops input script = AreOuterTold ops (scan_rows input) [] [] script
+AreTold ops input script = AreOuterTold ops (stream_rows input) [] [] script
 
 -- no tree numbers more than 128 columns
 abbrev pub FitsColumns : List Statement → Type 0

@@ -7,14 +7,25 @@ use Rattle.scope_value.specs.declared.value.Value.{Value}
 use Rattle.script_trees.specs.declared.agg.AggKind.{AggKind}
 use Rattle.scope_expr.specs.declared.expr.Expr.{Expr}
 use Rattle.scope_expr.specs.Value.{holds}
-use Rattle.logical_dag.specs.declared.dag.ScanDecl.{ScanDecl}
-use Rattle.logical_dag.specs.declared.dag.Stored.{Stored}
 use Rattle.user_ops.specs.Told.{Operators, processes_at, reduces_at, combines_at}
 use Rattle.outer_joins.specs.declared.side.Side.{Side}
 use Rattle.outer_joins.specs.OuterPairs.{keeps_left, keeps_right, nulls}
 use Rattle.logical_trees.specs.Rows.{Row, Bag, projected, agree_on, with_key, keys_among, group_keys, whole_value, first_rows, in_order, order_of, left_columns, right_columns, keys_of_both}
 use Rattle.column_ranks.specs.RowLemmas.{values}
-use Rattle.script_meaning.specs.Script.{Source, from_result, from_stream, Call, Joined, Beside, inners, outer, Grouping, Query, Command, extract, select, process, reduce, combine, output, Statement, input_at}
+use Rattle.placed_trees.specs.declared.call.Call.{Call}
+use Rattle.placed_trees.specs.declared.command.Command.{Command}
+use Rattle.placed_trees.specs.declared.command.Command.TheVariants.{Extract, Select, Process, Reduce, Combine, Output}
+use Rattle.placed_trees.specs.declared.query.Beside.{Beside}
+use Rattle.placed_trees.specs.declared.query.Beside.TheVariants.{Inners, Outer}
+use Rattle.placed_trees.specs.declared.query.Grouping.{Grouping}
+use Rattle.placed_trees.specs.declared.query.Joined.{Joined}
+use Rattle.placed_trees.specs.declared.query.Query.{Query}
+use Rattle.placed_trees.specs.declared.source.Source.{Source}
+use Rattle.placed_trees.specs.declared.source.Source.TheVariants.{FromResult, FromStream}
+use Rattle.placed_trees.specs.declared.source.StoredPlaces.{StoredPlaces}
+use Rattle.placed_trees.specs.declared.source.Stream.{Stream}
+use Rattle.placed_trees.specs.declared.statement.Statement.{Statement}
+use Rattle.placed_trees.specs.Inputs.{input_at}
 
 -- the columns by place
 abbrev pub places : ℕ → List ℕ
@@ -87,7 +98,7 @@ abbrev pub with_order : Option (List (ℕ × Dir)) → Table → Table
 with_order order A = record { width = A.width; order = order; rows = A.rows }
 
 -- an ORDER BY has no effect on a stored OUTPUT
-abbrev pub unless_stored : Option Stored → Option (List (ℕ × Dir)) → Option (List (ℕ × Dir))
+abbrev pub unless_stored : Option StoredPlaces → Option (List (ℕ × Dir)) → Option (List (ℕ × Dir))
 unless_stored None order = order
 unless_stored (Some stored) order = None
 
@@ -101,12 +112,12 @@ result_at done None = no_table
 result_at done (Some k) = or_no_table (slice_get done k)
 
 -- the rows of a source
-abbrev pub source_rows : (ScanDecl → Bag) → List Statement → List Table → Source → Table
-source_rows input earlier done (from_result i) = result_at done (input_at earlier i)
-source_rows input earlier done (from_stream d) = table (length d.schema) (input d)
+abbrev pub source_rows : (Stream → Bag) → List Statement → List Table → Source → Table
+source_rows input earlier done (FromResult i) = result_at done (input_at earlier i)
+source_rows input earlier done (FromStream d) = table (length d.schema) (input d)
 
 -- the sources of a FROM, joined from the left
-abbrev pub from_rows : (ScanDecl → Bag) → List Statement → List Table → Table → List Joined → Table
+abbrev pub from_rows : (Stream → Bag) → List Statement → List Table → Table → List Joined → Table
 from_rows input earlier done A [] = A
 from_rows input earlier done A (j ∷ more) = from_rows input earlier done (join_rows j.on A (source_rows input earlier done j.source)) more
 
@@ -128,9 +139,9 @@ outer_bag side alike m n A B =
 abbrev pub outer_rows : Side → List (ℕ × ℕ) → Table → Table → Table
 outer_rows side on A B = table (A.width + B.width) (outer_bag side (agree_on on (places A.width) (places B.width)) A.width B.width A.rows B.rows)
 
-abbrev pub beside_rows : (ScanDecl → Bag) → List Statement → List Table → Table → Beside → Table
-beside_rows input earlier done A (inners joins) = from_rows input earlier done A joins
-beside_rows input earlier done A (outer side call j) = outer_rows side j.on A (source_rows input earlier done j.source)
+abbrev pub beside_rows : (Stream → Bag) → List Statement → List Table → Table → Beside → Table
+beside_rows input earlier done A (Inners joins) = from_rows input earlier done A joins
+beside_rows input earlier done A (Outer side call j) = outer_rows side j.on A (source_rows input earlier done j.source)
 
 -- what a processor gives row by row
 abbrev pub process_rows : Operators → Call → Table → Table
@@ -159,16 +170,16 @@ query_rows q A =
     (top_opt q.top (order_list q.order) (distinct_opt q.distinct (where_opt q.having (item_rows q.items (group_opt q.group (where_opt q.test A))))))
 
 -- the result of a command after these statements, whose results are given
-abbrev pub result : Operators → (ScanDecl → Bag) → List Statement → List Table → Command → Table
-result ops input earlier done (extract d) = table (length d.schema) (input d)
-result ops input earlier done (select q) = query_rows q (beside_rows input earlier done (source_rows input earlier done q.source) q.beside)
-result ops input earlier done (process source call) = process_rows ops call (source_rows input earlier done source)
-result ops input earlier done (reduce source on presort call) = reduce_rows ops on presort call (source_rows input earlier done source)
-result ops input earlier done (combine source before other after on call) =
+abbrev pub result : Operators → (Stream → Bag) → List Statement → List Table → Command → Table
+result ops input earlier done (Extract d) = table (length d.schema) (input d)
+result ops input earlier done (Select q) = query_rows q (beside_rows input earlier done (source_rows input earlier done q.source) q.beside)
+result ops input earlier done (Process source call) = process_rows ops call (source_rows input earlier done source)
+result ops input earlier done (Reduce source on presort call) = reduce_rows ops on presort call (source_rows input earlier done source)
+result ops input earlier done (Combine source before other after on call) =
     combine_rows ops on before after call (source_rows input earlier done source) (source_rows input earlier done other)
-result ops input earlier done (output source stream stored) = let A = result_at done (input_at earlier source) in with_order (unless_stored stored A.order) A
+result ops input earlier done (Output w) = let A = result_at done (input_at earlier w.source) in with_order (unless_stored w.stored A.order) A
 
 -- the results of all statements
-abbrev pub results : Operators → (ScanDecl → Bag) → List Statement → List Table → List Statement → List Table
+abbrev pub results : Operators → (Stream → Bag) → List Statement → List Table → List Statement → List Table
 results ops input earlier done [] = done
 results ops input earlier done (s ∷ rest) = results ops input (earlier ++ s ∷ []) (done ++ result ops input earlier done s.command ∷ []) rest

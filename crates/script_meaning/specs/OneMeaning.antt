@@ -4,7 +4,7 @@ use Rattle.user_ops.specs.Told.{Operators}
 use Rattle.logical_dag.specs.declared.dag.ScanDecl.{ScanDecl}
 use Rattle.logical_trees.specs.Rows.{Bag}
 use Rattle.logical_dag.specs.DagMeaning.{AreSameOutputs}
-use Rattle.script_meaning.specs.Script.{Statement}
+use Rattle.placed_trees.specs.declared.statement.Statement.{Statement}
 use Rattle.script_meaning.specs.Dag.{ScriptDag, dag_of}
 use Rattle.script_meaning.specs.Placed.{IsPlaced}
 use Rattle.script_meaning.specs.Laws.{Gives, meaning, FitsColumns, AreTold}

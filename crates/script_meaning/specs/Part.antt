@@ -5,14 +5,17 @@ use Rattle.col_sets.specs.declared.dir.Dir.{Dir}
 use Rattle.script_trees.specs.declared.agg.AggKind.{AggKind}
 use Rattle.scope_expr.specs.declared.expr.Expr.{Expr}
 use Rattle.logical_trees.specs.declared.agg.Agg.{Agg}
-use Rattle.logical_dag.specs.declared.dag.ScanDecl.{ScanDecl}
 use Rattle.logical_dag.specs.declared.dag.Stored.{Stored}
 use Rattle.logical_trees.specs.declared.logic_op.LogicOp.{LogicOp}
 use Rattle.logical_trees.specs.declared.logic_op.LogicOp.TheVariants.{Scan, Ref, Filter, Project, Join, Group, Process, Reduce, Combine, Top}
 use Rattle.logical_trees.specs.Tree.{Expression, leaf, one, two}
 use Rattle.logical_trees.specs.declared.args.CallArgs.{CallArgs}
 use Rattle.scope_expr.specs.Moved.{moved}
-use Rattle.script_meaning.specs.Script.{Call, Grouping, Query}
+use Rattle.placed_trees.specs.declared.call.Call.{Call}
+use Rattle.placed_trees.specs.declared.query.Grouping.{Grouping}
+use Rattle.placed_trees.specs.declared.query.Query.{Query}
+use Rattle.placed_trees.specs.declared.source.StoredPlaces.{StoredPlaces}
+use Rattle.placed_trees.specs.declared.source.Stream.{Stream}
 use Rattle.script_meaning.specs.Meaning.{key_places, order_list, unless_stored}
 
 -- A bound expression, before it is known where it will stand. `tree name s c` is the tree where shared results have these
@@ -24,8 +27,8 @@ pub record Part : Type 0 where
   pub cols : List ℕ
   pub count : ℕ
   pub order : Option (List (ℕ × Dir))
-  pub stored : Option Stored
-  pub scans : List ScanDecl
+  pub stored : Option StoredPlaces
+  pub scans : List Stream
   pub refs : List ℕ
   pub tree : (ℕ → ℕ) → ℕ → ℕ → Expression
 
@@ -49,7 +52,7 @@ nothing = record {
   tree = λ name s c. one (Top (record { n = 0; order = [] })) (leaf (Ref 0 []));
 }
 
-abbrev pub scanned : ScanDecl → Part
+abbrev pub scanned : Stream → Part
 scanned d = record {
   cols = range_with_len 0 (length d.schema);
   count = length d.schema;
@@ -171,9 +174,9 @@ query_part q a =
     (first_opt q.top (order_list q.order) (unique_opt q.distinct (filter_opt q.having (project_part q.items (grouping_opt q.group (filter_opt q.test a))))))
 
 -- a declaration by place, in columns
-abbrev pub stored_at : (ℕ → ℕ) → Option Stored → Option Stored
+abbrev pub stored_at : (ℕ → ℕ) → Option StoredPlaces → Option Stored
 stored_at f = option_map (λ s. record { hash = map f s.hash; sorted = order_at f s.sorted })
 
 -- the part as an OUTPUT stores it
-abbrev pub stored_part : Option Stored → Part → Part
+abbrev pub stored_part : Option StoredPlaces → Part → Part
 stored_part stored a = record a { order = unless_stored stored a.order; stored = stored }

@@ -8,7 +8,7 @@ use Rattle.logical_dag.specs.Scripts.{scans_of, IsWritten, IsStoredOver, IsScanO
 use Rattle.logical_trees.specs.Tree.{Expression, columns_of}
 use Rattle.logical_trees.specs.Rows.{order_of}
 use Rattle.logical_trees.specs.Formed.{IsOrderOver}
-use Rattle.script_meaning.specs.Script.{Statement}
+use Rattle.placed_trees.specs.declared.statement.Statement.{Statement}
 use Rattle.script_meaning.specs.Placed.{IsPlaced}
 use Rattle.script_meaning.specs.Dag.{ScriptDag, dag_of}
 use Rattle.script_meaning.specs.Laws.{FitsColumns}

@@ -1,6 +1,7 @@
 // What the Dag of a script gives.
 ghost use Rattle.script_meaning.specs.Laws.{GivesMeaning, GivesOuterJoin, GivesToldJoin, AreToldCalls};
 ghost use Rattle.script_meaning.specs.Written.{GivesBindable};
+ghost use Rattle.script_meaning.specs.Within.{GivesBounded};
 ghost use Rattle.script_meaning.specs.OneMeaning.{GivesOne, GivesSome, GivesMeaningAlone};
 ghost use Rattle.script_meaning.specs.Examples.{Rules};
 
@@ -26,6 +27,11 @@ pub fn told_law()
 /// The Dag of a script that names what is there is one that binding can give.
 pub fn bindable_law()
     ensures { GivesBindable }
+{}
+
+/// The Dag of a script within the limits of the language is within the bounds of a Dag.
+pub fn bounds_law()
+    ensures { GivesBounded }
 {}
 
 /// A Dag that binding can give gives some rows and one result, and that of a script what the script means alone.
