@@ -1,0 +1,4 @@
+mod GroupLemmas
+mod Lists
+mod SightLemmas
+mod OperatorLemmas

@@ -1,0 +1,4 @@
+pub mod Sight
+pub mod Operators
+pub mod Inputs
+pub mod Views
