@@ -1,0 +1,4 @@
+mod FoundLemmas
+mod JudgingLemmas
+mod OnLemmas
+mod RepeatLemmas

@@ -1,0 +1,8 @@
+use Rattle.std.proofs.Common.{◌≡◌, subst}
+use Rattle.binding_causes.proofs.ops.processor_accepts.Goals as goal
+
+-- the object in the box is the one that is lent
+pub returns : goal.returns
+returns g c =
+    subst (λ op. c.accepts.result ≡ ((goal.Processor-dyn g op).told_processor op.1).takes c.args.input.now c.args.output.now c.args.args.now)
+    c.deref_box-1.ensures.1 c.accepts.ensures

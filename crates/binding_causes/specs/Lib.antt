@@ -1,0 +1,9 @@
+pub mod Asked
+pub mod Columns
+pub mod Names
+pub mod Operators
+pub mod Limits
+pub mod Found
+pub mod Resolution
+pub mod Judging
+pub mod Progress
