@@ -15,3 +15,5 @@ mod shipped;
 mod silent;
 #[cfg(test)]
 mod top;
+#[cfg(test)]
+mod words;
