@@ -16,4 +16,5 @@ mod keyed;
 mod orders;
 mod plain;
 
+pub use orders::rows_in_order;
 pub use plain::plain_bag;

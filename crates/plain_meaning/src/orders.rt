@@ -26,8 +26,9 @@ pub(crate) fn first_rows(
     Ok(first)
 }
 
-/// The rows by some columns, the first the most significant, and then by all values.
-pub(crate) fn rows_in_order(
+/// The rows by some columns, the first the most significant, and then by all values, in memory of their own. `cols` are the columns
+/// of the rows. An error is want of memory.
+pub fn rows_in_order(
     alloc: Global,
     cols: ColSet,
     order: &[(ColId, Dir)],
