@@ -1,13 +1,13 @@
-//! The program `scope`: hands the process's words, its files and the shipped operators to the top call, says how that ended, and ends with
+//! The program `scope`: hands the process's words, its files and its operators to the top call, says how that ended, and ends with
 //! its number.
 #![tactic(auto)]
 
+use outer_joins::{FullPairs, LeftPairs, RightPairs};
 use scope_app::{Status, scope_main, status_line, status_number};
-use scope_outside::FileStore;
+use scope_outside::{FileStore, Store};
 use scope_shipped::{
     InnerPairs, LogExtractor, MultiSetDifference, SplitWords, TextExtractor, TopQueries,
 };
-use scope_value::Cell;
 use std::alloc::{AllocError, Global};
 use std::env;
 use std::io::{self, Write};
@@ -15,26 +15,23 @@ use std::process::ExitCode;
 use std::rt::{Env, Files};
 use user_ops::OpSet;
 
-// The names of the shipped operators.
+// The operators that read rows and make rows of one input, each in a box of its own.
 #[derive(Drop)]
-struct Names {
-    log: Cell,
-    text: Cell,
-    split: Cell,
-    top: Cell,
-    difference: Cell,
-    pairs: Cell,
-}
-
-// The shipped operators, each in a box of its own.
-#[derive(Drop)]
-struct Boxes {
+struct Makers {
     log: Box<LogExtractor>,
     text: Box<TextExtractor>,
     split: Box<SplitWords>,
     top: Box<TopQueries>,
+}
+
+// The operators of two inputs, each in a box of its own.
+#[derive(Drop)]
+struct Pairings {
     difference: Box<MultiSetDifference>,
-    pairs: Box<InnerPairs>,
+    inner: Box<InnerPairs>,
+    left: Box<LeftPairs>,
+    right: Box<RightPairs>,
+    full: Box<FullPairs>,
 }
 
 fn main(rt: HostRuntime) -> ExitCode {
@@ -51,74 +48,90 @@ fn main(rt: HostRuntime) -> ExitCode {
 // Makes all that the top call is handed, and calls it.
 fn run<R: Env + Files + AllocGlobal>(rt: &R, alloc: Global) -> Result<Status, AllocError> {
     let words = words_of(rt, alloc)?;
-    let names = shipped_names(alloc)?;
-    let boxes = shipped_boxes(alloc)?;
-    Ok(run_over_files(rt, alloc, words.as_slice(), names, boxes))
+    let makers = make_makers(alloc)?;
+    let pairings = make_pairings(alloc)?;
+    Ok(run_over_files(rt, alloc, words.as_slice(), makers, pairings))
 }
 
 fn run_over_files<R: Files>(
     rt: &R,
     alloc: Global,
     words: &[String],
-    names: Names,
-    boxes: Boxes,
+    makers: Makers,
+    pairings: Pairings,
 ) -> Status {
-    let Names {
-        log: log_name,
-        text: text_name,
-        split: split_name,
-        top: top_name,
-        difference: difference_name,
-        pairs: pairs_name,
-    } = names;
-    let Boxes {
+    let mut store = FileStore::new(alloc, rt);
+    run_over(alloc, words, &mut store, makers, pairings)
+}
+
+// Puts the operators under their names, and calls over the store. A function that makes operators out of boxes can't hand on their set, so
+// that all are put in here; it knows nothing of the store but its trait, which keeps its proof short.
+fn run_over<S: Store>(
+    alloc: Global,
+    words: &[String],
+    store: &mut S,
+    makers: Makers,
+    pairings: Pairings,
+) -> Status {
+    let Makers {
         log,
         text,
         split,
         top,
+    } = makers;
+    let Pairings {
         difference,
-        pairs,
-    } = boxes;
+        inner,
+        left,
+        right,
+        full,
+    } = pairings;
     let mut ops = OpSet::new(alloc);
-    // Each answer is dropped before the next call, so that no two boxes that were handed back are alive at once.
-    let has_log = ops.add_extractor(log_name, log).ok().is_some();
-    let has_text = ops.add_extractor(text_name, text).ok().is_some();
-    let has_split = ops.add_processor(split_name, split).ok().is_some();
-    let has_top = ops.add_reducer(top_name, top).ok().is_some();
-    let has_difference = ops.add_combiner(difference_name, difference).ok().is_some();
-    let has_pairs = ops.add_combiner(pairs_name, pairs).ok().is_some();
-    // No name stands twice, so that a refusal is want of memory.
-    if has_log & has_text & has_split & has_top & has_difference & has_pairs {
-        call(rt, alloc, words, &ops)
+    let has_log = ops.put_extractor(alloc, b"LogExtractor", log);
+    let has_text = ops.put_extractor(alloc, b"TextExtractor", text);
+    let has_split = ops.put_processor(alloc, b"SplitWords", split);
+    let has_top = ops.put_reducer(alloc, b"TopQueries", top);
+    let has_difference = ops.put_combiner(alloc, b"MultiSetDifference", difference);
+    let has_inner = ops.put_combiner(alloc, b"InnerPairs", inner);
+    let has_left = ops.put_combiner(alloc, b"LeftPairs", left);
+    let has_right = ops.put_combiner(alloc, b"RightPairs", right);
+    let has_full = ops.put_combiner(alloc, b"FullPairs", full);
+    let has_makers = has_log & has_text & has_split & has_top;
+    let has_pairings = has_difference & has_inner & has_left & has_right & has_full;
+    call(alloc, words, store, &ops, has_makers & has_pairings)
+}
+
+// Calls over the set, where all operators are in it. No name stands twice there, so that a refusal is want of memory.
+fn call<S: Store>(
+    alloc: Global,
+    words: &[String],
+    store: &mut S,
+    ops: &OpSet,
+    is_whole: bool,
+) -> Status {
+    if is_whole {
+        scope_main(alloc, words, store, ops)
     } else {
         Status::NoMemory
     }
 }
 
-fn call<R: Files>(rt: &R, alloc: Global, words: &[String], ops: &OpSet) -> Status {
-    let mut store = FileStore::new(alloc, rt);
-    scope_main(alloc, words, &mut store, ops)
-}
-
-fn shipped_boxes(alloc: Global) -> Result<Boxes, AllocError> {
-    Ok(Boxes {
+fn make_makers(alloc: Global) -> Result<Makers, AllocError> {
+    Ok(Makers {
         log: Box::new(alloc, LogExtractor)?,
         text: Box::new(alloc, TextExtractor)?,
         split: Box::new(alloc, SplitWords)?,
         top: Box::new(alloc, TopQueries)?,
-        difference: Box::new(alloc, MultiSetDifference)?,
-        pairs: Box::new(alloc, InnerPairs)?,
     })
 }
 
-fn shipped_names(alloc: Global) -> Result<Names, AllocError> {
-    Ok(Names {
-        log: Cell::from_slice(alloc, b"LogExtractor")?,
-        text: Cell::from_slice(alloc, b"TextExtractor")?,
-        split: Cell::from_slice(alloc, b"SplitWords")?,
-        top: Cell::from_slice(alloc, b"TopQueries")?,
-        difference: Cell::from_slice(alloc, b"MultiSetDifference")?,
-        pairs: Cell::from_slice(alloc, b"InnerPairs")?,
+fn make_pairings(alloc: Global) -> Result<Pairings, AllocError> {
+    Ok(Pairings {
+        difference: Box::new(alloc, MultiSetDifference)?,
+        inner: Box::new(alloc, InnerPairs)?,
+        left: Box::new(alloc, LeftPairs)?,
+        right: Box::new(alloc, RightPairs)?,
+        full: Box::new(alloc, FullPairs)?,
     })
 }
 

@@ -1,5 +1,5 @@
 // The operators of one kind, each under a name of its own.
-ghost use Rattle.std.specs.Prelude.{◌≡◌, ◌++◌, ◌<◌, ◌∷◌, [], ◌↔◌, OnOk, OnErr, IfSome, IfErr, IsErrAnd, Contains, map, length, slice_get, Some};
+ghost use Rattle.std.specs.Prelude.{◌≡◌, true, false, ◌++◌, ◌<◌, ◌∷◌, [], ◌↔◌, OnOk, OnErr, IfSome, IfErr, IsErrAnd, Contains, map, length, slice_get, Some};
 ghost use Rattle.std.specs.Str.{bytes_eq};
 ghost use Rattle.std.specs.List.{position};
 
@@ -57,6 +57,22 @@ impl<T> NamedList<T> {
                 let Named { name: _, op } = e.value;
                 Err((op, AddFault::NoMemory))
             }
+        }
+    }
+
+    /// Adds it at the end under a copy of the name, and answers true; or answers false, drops it and changes nothing, where the name is
+    /// there or for want of memory.
+    pub(crate) fn put(&mut self, alloc: Global, name: &[u8], op: T) -> bool
+    where
+        T: Drop,
+        ensures names { result ≡ true → map (λ n. n.name) self.new.entries.items ≡ map (λ n. n.name) self.old.entries.items ++ name.now ∷ [] }
+        ensures ok { result ≡ true → self.new.entries.items ≡ self.old.entries.items ++ record { name = name.now; op = op } ∷ [] }
+        ensures unchanged { result ≡ false → self.new.entries.items ≡ self.old.entries.items }
+        ensures duplicate { Contains (map (λ n. n.name) self.old.entries.items) name.now → result ≡ false }
+    {
+        match Cell::from_slice(alloc, name) {
+            Ok(name) => self.add(name, op).is_ok(),
+            Err(_) => false,
         }
     }
 }

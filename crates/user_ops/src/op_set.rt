@@ -1,5 +1,5 @@
 // The set of operators that a caller hands in, and how clauses speak of what its objects tell.
-ghost use Rattle.std.specs.Prelude.{◌≡◌, ◌++◌, ◌<◌, ◌∷◌, [], ◌↔◌, OnOk, OnErr, IfSome, IfErr, IsErrAnd, Contains, length, slice_get, Some};
+ghost use Rattle.std.specs.Prelude.{◌≡◌, true, false, ◌++◌, ◌<◌, ◌∷◌, [], ◌↔◌, OnOk, OnErr, IfSome, IfErr, IsErrAnd, Contains, length, slice_get, Some};
 ghost use Rattle.std.specs.Str.{bytes_eq};
 ghost use Rattle.std.specs.List.{position};
 
@@ -107,6 +107,20 @@ impl OpSet {
         self.extractors.add(name, op)
     }
 
+    /// Adds an extractor at the end of its kind under a copy of the name, and answers true; or answers false, drops the box and changes
+    /// nothing, where the set has an extractor of that name or for want of memory.
+    pub fn put_extractor(&mut self, alloc: Global, name: &[u8], op: Box<dyn Extractor>) -> bool
+        ensures ok { let old = ⟦<OpSet as Tells>⟧.tells self.old in
+            result ≡ true → ⟦<OpSet as Tells>⟧.tells self.new ≡ record old {
+              extractor_names = old.extractor_names ++ name.now ∷ [];
+              extractors = old.extractors ++ told_extractor op ∷ [];
+            } }
+        ensures unchanged { result ≡ false → ⟦<OpSet as Tells>⟧.tells self.new ≡ ⟦<OpSet as Tells>⟧.tells self.old }
+        ensures duplicate { Contains (⟦<OpSet as Tells>⟧.tells self.old).extractor_names name.now → result ≡ false }
+    {
+        self.extractors.put(alloc, name, op)
+    }
+
     /// The place of the extractor of that name, or None exactly where the set has none.
     pub fn find_extractor(&self, name: &[u8]) -> Option<usize>
         ensures is { result ≡ position (λ n. bytes_eq n name.now) (⟦<OpSet as Tells>⟧.tells self.now).extractor_names }
@@ -141,6 +155,20 @@ impl OpSet {
             ↔ Contains (⟦<OpSet as Tells>⟧.tells self.old).processor_names name }
     {
         self.processors.add(name, op)
+    }
+
+    /// Adds a processor at the end of its kind under a copy of the name, and answers true; or answers false, drops the box and changes
+    /// nothing, where the set has a processor of that name or for want of memory.
+    pub fn put_processor(&mut self, alloc: Global, name: &[u8], op: Box<dyn Processor>) -> bool
+        ensures ok { let old = ⟦<OpSet as Tells>⟧.tells self.old in
+            result ≡ true → ⟦<OpSet as Tells>⟧.tells self.new ≡ record old {
+              processor_names = old.processor_names ++ name.now ∷ [];
+              processors = old.processors ++ told_processor op ∷ [];
+            } }
+        ensures unchanged { result ≡ false → ⟦<OpSet as Tells>⟧.tells self.new ≡ ⟦<OpSet as Tells>⟧.tells self.old }
+        ensures duplicate { Contains (⟦<OpSet as Tells>⟧.tells self.old).processor_names name.now → result ≡ false }
+    {
+        self.processors.put(alloc, name, op)
     }
 
     /// The place of the processor of that name, or None exactly where the set has none.
@@ -179,6 +207,20 @@ impl OpSet {
         self.reducers.add(name, op)
     }
 
+    /// Adds a reducer at the end of its kind under a copy of the name, and answers true; or answers false, drops the box and changes
+    /// nothing, where the set has a reducer of that name or for want of memory.
+    pub fn put_reducer(&mut self, alloc: Global, name: &[u8], op: Box<dyn Reducer>) -> bool
+        ensures ok { let old = ⟦<OpSet as Tells>⟧.tells self.old in
+            result ≡ true → ⟦<OpSet as Tells>⟧.tells self.new ≡ record old {
+              reducer_names = old.reducer_names ++ name.now ∷ [];
+              reducers = old.reducers ++ told_reducer op ∷ [];
+            } }
+        ensures unchanged { result ≡ false → ⟦<OpSet as Tells>⟧.tells self.new ≡ ⟦<OpSet as Tells>⟧.tells self.old }
+        ensures duplicate { Contains (⟦<OpSet as Tells>⟧.tells self.old).reducer_names name.now → result ≡ false }
+    {
+        self.reducers.put(alloc, name, op)
+    }
+
     /// The place of the reducer of that name, or None exactly where the set has none.
     pub fn find_reducer(&self, name: &[u8]) -> Option<usize>
         ensures is { result ≡ position (λ n. bytes_eq n name.now) (⟦<OpSet as Tells>⟧.tells self.now).reducer_names }
@@ -213,6 +255,20 @@ impl OpSet {
             ↔ Contains (⟦<OpSet as Tells>⟧.tells self.old).combiner_names name }
     {
         self.combiners.add(name, op)
+    }
+
+    /// Adds a combiner at the end of its kind under a copy of the name, and answers true; or answers false, drops the box and changes
+    /// nothing, where the set has a combiner of that name or for want of memory.
+    pub fn put_combiner(&mut self, alloc: Global, name: &[u8], op: Box<dyn Combiner>) -> bool
+        ensures ok { let old = ⟦<OpSet as Tells>⟧.tells self.old in
+            result ≡ true → ⟦<OpSet as Tells>⟧.tells self.new ≡ record old {
+              combiner_names = old.combiner_names ++ name.now ∷ [];
+              combiners = old.combiners ++ told_combiner op ∷ [];
+            } }
+        ensures unchanged { result ≡ false → ⟦<OpSet as Tells>⟧.tells self.new ≡ ⟦<OpSet as Tells>⟧.tells self.old }
+        ensures duplicate { Contains (⟦<OpSet as Tells>⟧.tells self.old).combiner_names name.now → result ≡ false }
+    {
+        self.combiners.put(alloc, name, op)
     }
 
     /// The place of the combiner of that name, or None exactly where the set has none.
