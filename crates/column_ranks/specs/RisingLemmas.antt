@@ -6,6 +6,7 @@ use Rattle.col_sets.specs.Sets.{has, columns_where, union, rank, IsColumnSet}
 use Rattle.col_sets.specs.Columns.{has_where, sets_same, columns_where-set}
 use Rattle.col_sets.specs.Tests.{either, or_left, from_test}
 use Rattle.column_ranks.specs.Rising.{IsRising}
+use Rattle.col_sets.specs.Listed.{has-append}
 
 pub rising_le : (a b : ℕ) (s : List ℕ) → IsRising a s b → a ≤ b
 rising_le a b [] h = h
@@ -99,19 +100,11 @@ pub rising_set : (b : ℕ) (s : List ℕ) → IsRising 0 s b → b ≤ 128 → I
 unfolding columns_where
 rising_set b s h l = range_kept s 0 128 b h (omega arith) (has s) (λ c m. refl)
 
-has_append : (s t : List ℕ) (c : ℕ) → has (s ++ t) c ≡ (has s c || has t c)
-has_append [] t c = refl
-has_append (d ∷ s) t c = go (nat_eq d c) (has_append s t c)
-  where
-    go : (b : Bool) → has (s ++ t) c ≡ (has s c || has t c) → (b || has (s ++ t) c) ≡ ((b || has s c) || has t c)
-    go true h = refl
-    go false h = h
-
 -- the union of a list and a later one is the one behind the other
 pub union_append : (b : ℕ) (s t : List ℕ) → IsRising 0 (s ++ t) b → b ≤ 128 → union s t ≡ s ++ t
 union_append b s t h l =
     sets_same (union s t) (s ++ t) (columns_where-set _) (rising_set b (s ++ t) h l)
-    (λ c m. has_where (λ d. has s d || has t d) c m ∙ sym (has_append s t c))
+    (λ c m. has_where (λ d. has s d || has t d) c m ∙ sym (has-append s t c))
 
 -- ---- ranks
 

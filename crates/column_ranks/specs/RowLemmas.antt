@@ -20,6 +20,7 @@ use Rattle.scope_expr.specs.Moved.{HasRanks, moved}
 use Rattle.column_ranks.specs.Rising.{IsRising}
 use Rattle.column_ranks.specs.RisingLemmas.{rising_from, rising_below, rising_append, rank_below, union_append}
 use Rattle.scope_expr.specs.ValueLemmas.{value_moved}
+use Rattle.std.proofs.lemmas.List.{map-append}
 
 -- a map of a map
 pub map_twice : {X Y Z : Type 0} (f : X → Y) (g : Y → Z) (h : X → Z) → ((x : X) → g (f x) ≡ h x) → (xs : List X) → map g (map f xs) ≡ map h xs
@@ -27,8 +28,7 @@ map_twice f g h e [] = refl
 map_twice f g h e (x ∷ xs) = ap₂ (λ y ys. y ∷ ys) (e x) (map_twice f g h e xs)
 
 pub map_over_append : {X Y : Type 0} (f : X → Y) (xs ys : List X) → map f (xs ++ ys) ≡ map f xs ++ map f ys
-map_over_append f [] ys = refl
-map_over_append f (x ∷ xs) ys = ap (λ l. f x ∷ l) (map_over_append f xs ys)
+map_over_append f xs ys = map-append f xs ys
 
 -- ---- renumbered columns
 

@@ -28,11 +28,7 @@ module _ {X : Type 0} where
   list_in (y ∷ ys) x (inl e) = (0, omega arith, sym e)
   list_in (y ∷ ys) x (inr h) = let m = list_in ys x h in let l : m.0 < length ys = m.1 in (suc m.0, omega arith, m.2)
 
-  -- a permutation has no other elements
-  pub in_permuted : (xs ys : List X) (x : X) → IsPermutation xs ys → Contains ys x → In x xs
-  in_permuted xs ys x p m = in_list xs x (Contains-permutation ys xs x (IsPermutation-sym xs ys p) m)
-
-  -- and has them all
+  -- a permutation has all elements
   pub in_moved : (x : X) (xs ys : List X) → IsPermutation xs ys → In x xs → In x ys
   in_moved x xs ys p h = in_list ys x (Contains-permutation xs ys x p (list_in xs x h))
 

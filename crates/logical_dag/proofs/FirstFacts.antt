@@ -18,7 +18,7 @@ use Rattle.logical_dag.specs.Places.{AreSharedFacts}
 use Rattle.logical_dag.proofs.Placed.{some_and, and_some, if_some, shared_columns, tree_formed}
 use Rattle.list_lemmas.specs.Reading.{read_some}
 use Rattle.list_lemmas.specs.Reading.{get_front, get_past}
-use Rattle.logical_dag.proofs.SharedFacts.{to_if, shared_lent}
+use Rattle.logical_dag.proofs.SharedFacts.{to_if, shared_lent, first_columns}
 
 -- the first n of these are the facts of the first n trees, each by those of the earlier ones
 abbrev pub AreFirstFacts : List Expression → ℕ → List Facts → Type 0
@@ -66,14 +66,6 @@ first_put trees n known t f l e new before i m = go (nat_eq i n) refl
         let below : i < n = omega arith in
         subst (λ o. IfSome (slice_get trees i) (λ u. IsSomeAnd o (AreFactsOf (take i (set known n f)) u))) (sym (get_other known n i f other))
         (subst (λ (fs : List Facts). IfSome (slice_get trees i) (λ u. IsSomeAnd (slice_get known i) (AreFactsOf fs u))) (sym (take-set-le i known n f (omega arith))) (before i below))
-
--- the first facts are over the columns of the first trees
-first_columns : (n : ℕ) (trees : List Expression) (known : List Facts) → n ≤ length trees → n ≤ length known
-    → ((i : ℕ) → i < n → IfSome (slice_get trees i) (λ t. IsSomeAnd (slice_get known i) (λ f. f.columns ≡ columns_of t))) → take n (map columns_of trees) ≡ lent_columns (take n known)
-first_columns zero trees known l m h = refl
-first_columns (suc n) [] known l m h = absurd (omega arith)
-first_columns (suc n) (t ∷ trees) [] l m h = absurd (omega arith)
-first_columns (suc n) (t ∷ trees) (f ∷ known) l m h = ap₂ ◌∷◌ (sym (h 0 (omega arith))) (first_columns n trees known (omega arith) (omega arith) (λ i k. h (suc i) (omega arith)))
 
 columns_too : (trees : List Expression) (n : ℕ) (known : List Facts) → AreFirstFacts trees n known
     → (i : ℕ) → i < n → IfSome (slice_get trees i) (λ t. IsSomeAnd (slice_get known i) (λ f. f.columns ≡ columns_of t))

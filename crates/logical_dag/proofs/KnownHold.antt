@@ -43,7 +43,7 @@ use Rattle.logical_trees.specs.Formed.{IsGroup, IsJoin, IsFormed}
 use Rattle.logical_dag.specs.Laws.{LentHold, HoldOf, lent_columns}
 use Rattle.logical_dag.specs.Known.{IsLentSet}
 use Rattle.logical_dag.specs.Facts.{IsLinked, stated, itself, turned, chained, IsColumnAndLiteral, AreColumns, SetsConstant, SetsEqual, is_column, is_literal, ref_name, item_name, key_name, Renamed, BothRenamed, IsRenamedSet, DependencyRenamed, IsAggregate, AreSameItem, IsConstant, Determines, AreEqual, AreFactsOf}
-use Rattle.list_lemmas.specs.Members.{in_list, list_in, in_permuted, in_sorted, in_first, in_map, in_flat_map, flat_map_in, in_distinct}
+use Rattle.list_lemmas.specs.Members.{in_list, list_in, in_moved, in_sorted, in_first, in_map, in_flat_map, flat_map_in, in_distinct}
 use Rattle.logical_trees.specs.RowLemmas.{value_over}
 use Rattle.logical_trees.specs.GroupRowLemmas.{group_row-key}
 use Rattle.logical_trees.specs.ColumnLemmas.{rank_at, columns_set}
@@ -164,7 +164,7 @@ module _ (C : ℕ → Type 0) (D : List ℕ → ℕ → Type 0) (E : ℕ → ℕ
       kept_hold cols A h B (λ x m. list_in A x (passed x m).0) (SetsConstant e) (SetsEqual e) (λ c k x y m n. set_constant cols e c x y k (passed x m).1 (passed y n).1) (λ c d k x m. set_equal cols e c d x k (passed x m).1)
     where
       passed : (x : Row) → Contains B x → In x A × (expr.holds e cols x ≡ true)
-      passed x m = in_filter (expr.holds e cols) x A (in_permuted (filter (expr.holds e cols) A) B x p m)
+      passed x m = in_filter (expr.holds e cols) x A (in_moved x B (filter (expr.holds e cols) A) (IsPermutation-sym (filter (expr.holds e cols) A) B p) (in_list B x m))
 
   -- the value of an item's column on the row that the items make
   projected_at : (items : List Expr) (made : List ℕ) (i c : ℕ) (e : Expr) (x : Row) → IsColumnSet made → slice_get made i ≡ Some c → slice_get items i ≡ Some e
@@ -200,7 +200,7 @@ module _ (C : ℕ → Type 0) (D : List ℕ → ℕ → Type 0) (E : ℕ → ℕ
       (λ c. (i : ℕ) × (slice_get made i ≡ Some c) × IsSomeAnd (slice_get items i) (λ e. is_literal e ≡ true)) (λ s c. ⊥) (AreSameItem items made) constants (λ s c n. absurd n) equal
     where
       source : (y : Row) → Contains B y → (x : Row) × In x A × (y ≡ projected items cols x)
-      source y m = in_map (projected items cols) A y (in_permuted (map (projected items cols) A) B y p m)
+      source y m = in_map (projected items cols) A y (in_moved y B (map (projected items cols) A) (IsPermutation-sym (map (projected items cols) A) B p) (in_list B y m))
 
       -- the plain column of an item at a place
       column_at : (x : Row) (i b c : ℕ) → slice_get made i ≡ Some c → IsSomeAnd (slice_get items i) (λ e. is_column b e ≡ true) → value_at made (projected items cols x) c ≡ value_at cols x b
@@ -288,7 +288,7 @@ module _ (args : GroupArgs) (group : IsGroup args) (cols : List ℕ) where
       where
         source : (y : Row) → Contains B y → (k : Row) × In k (group_keys cols args.keys A) × (y ≡ key_row value_of k)
         source y m = in_map (key_row value_of) (group_keys cols args.keys A) y
-            (in_permuted (rows_of_keys args cols value_of (group_keys cols args.keys A) A) B y p m)
+            (in_moved y B _ (IsPermutation-sym (rows_of_keys args cols value_of (group_keys cols args.keys A) A) B p) (in_list B y m))
 
         constants : (c : ℕ) → (args.keys ≡ []) × IsAggregate args c → OneValue (group_columns args) B c
         constants c k = λ x y m n.
@@ -323,7 +323,7 @@ module _ (args : GroupArgs) (group : IsGroup args) (cols : List ℕ) where
     partial_hold : (parts : List Bag) → IsPermutation (flat_map (λ part. part) parts) A → IsPermutation (flat_map (partial_rows args cols) parts) B
         → HoldOver (λ c. Renamed (key_name args.keys) C c ⊎ ⊥) (λ s c. DependencyRenamed (key_name args.keys) D s c ⊎ ⊥) (IsLinked (λ a b. BothRenamed (key_name args.keys) E a b ⊎ ⊥)) (group_columns args) B
     partial_hold parts p q = above_hold cols A h (key_name args.keys) (group_columns args) B (λ y m b c e.
-        let part = in_flat_map (partial_rows args cols) parts y (in_permuted (flat_map (partial_rows args cols) parts) B y q m) in
+        let part = in_flat_map (partial_rows args cols) parts y (in_moved y B _ (IsPermutation-sym (flat_map (partial_rows args cols) parts) B q) (in_list B y m)) in
         let row : Row → Row = λ k. group_row args (λ a. partial_value cols a (with_key cols args.keys k part.0)) k in
         let k = in_map row (keys_among cols args.keys part.0) y part.2 in
         let r = in_map (key_of cols args.keys) part.0 k.0 (in_distinct (map (key_of cols args.keys) part.0) k.0 k.1) in
@@ -350,7 +350,7 @@ module _ (on : List (ℕ × ℕ)) (left right : List ℕ) (set : IsColumnSet lef
 
   sides_of : (y : Row) → Contains Z y → Sides y
   sides_of y m =
-      let r = in_flat_map (λ r. map (merged left right r) (filter (agree_on on left right r) B)) A y (in_permuted (joined on left right A B) Z y p m) in
+      let r = in_flat_map (λ r. map (merged left right r) (filter (agree_on on left right r) B)) A y (in_moved y Z _ (IsPermutation-sym (joined on left right A B) Z p) (in_list Z y m)) in
       let s = in_map (merged left right r.0) (filter (agree_on on left right r.0) B) y r.2 in
       let k = in_filter (agree_on on left right r.0) s.0 B s.1 in
       record { one = r.0; second = s.0; there = list_in A r.0 r.1; beside = list_in B s.0 k.0; agree = k.1; made = s.2 }
@@ -484,8 +484,8 @@ module _ (shared : List Facts) where
     one_hold results (Partial args) t B h below gives = partial_hold args h.1.0 (columns_of t) _ _ _ gives.0 B (below gives.0 gives.1) gives.2.0 gives.2.1 gives.2.2
     one_hold results (Process call) t B h below gives = renewed (columns_of t) gives.0 (below gives.0 gives.1) call.cols B
     one_hold results (Reduce call on presort) t B h below gives = renewed (columns_of t) gives.0 (below gives.0 gives.1) call.cols B
-    one_hold results (Top args) t B h below gives = fewer (columns_of t) gives.0 (below gives.0 gives.1) B (λ x m. first_in args (columns_of t) gives.0 x (in_permuted _ B x gives.2 m))
-    one_hold results (LastTop args) t B h below gives = fewer (columns_of t) gives.0 (below gives.0 gives.1) B (λ x m. first_in args (columns_of t) gives.0 x (in_permuted _ B x gives.2 m))
+    one_hold results (Top args) t B h below gives = fewer (columns_of t) gives.0 (below gives.0 gives.1) B (λ x m. first_in args (columns_of t) gives.0 x (in_moved x B _ (IsPermutation-sym _ B gives.2) (in_list B x m)))
+    one_hold results (LastTop args) t B h below gives = fewer (columns_of t) gives.0 (below gives.0 gives.1) B (λ x m. first_in args (columns_of t) gives.0 x (in_moved x B _ (IsPermutation-sym _ B gives.2) (in_list B x m)))
     one_hold results (LocalTop args) t B h below gives =
         fewer (columns_of t) gives.0 (below gives.0 gives.1) B (λ x m. Contains-permutation _ gives.0 x gives.2.2 (Contains-append_left B gives.2.0 x m))
     one_hold results op t B h below gives = absurd gives.2

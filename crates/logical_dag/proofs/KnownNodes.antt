@@ -15,7 +15,7 @@ use Rattle.logical_dag.specs.Facts.{AreFactsOf}
 use Rattle.logical_dag.specs.Known.{IsOwn, IsJoinApart}
 use Rattle.logical_dag.specs.Laws.{lent_columns}
 use Rattle.logical_dag.specs.KnownNodes.{HasFacts, HasNodes, MayHaveFacts, MayHaveNodes, ArePut, IsPutAbove, IsPutOver}
-use Rattle.list_lemmas.specs.Reading.{get_front, get_last}
+use Rattle.list_lemmas.specs.Reading.{get_front, get_last, split_get}
 use Rattle.logical_dag.proofs.Placed.{some_and, and_some}
 use Rattle.logical_dag.proofs.KnownTables.{facts_own, joined_apart}
 
@@ -29,18 +29,6 @@ if_ok_more (Err e) f h = tt
 -- what is said of the value that is there, by that value
 pub at_some : {X : Type 0} (o : Option X) (P : X → Type 0) (x : X) → o ≡ Some x → IsSomeAnd o P → P x
 at_some o P x e h = subst (λ q. IsSomeAnd q P) e h
-
--- a place of two lists is one of the first or of the second
-get_either : {X : Type 0} (xs ys : List X) (n : ℕ) (x : X) → slice_get (xs ++ ys) n ≡ Some x
-    → (slice_get xs n ≡ Some x) ⊎ ((m : ℕ) × (n ≡ length xs + m) × (slice_get ys m ≡ Some x))
-get_either [] ys n x h = inr (n, omega arith, h)
-get_either (y ∷ xs) ys zero x h = inl h
-get_either (y ∷ xs) ys (suc n) x h = go (get_either xs ys n x h)
-  where
-    go : (slice_get xs n ≡ Some x) ⊎ ((m : ℕ) × (n ≡ length xs + m) × (slice_get ys m ≡ Some x))
-        → (slice_get (y ∷ xs) (suc n) ≡ Some x) ⊎ ((m : ℕ) × (suc n ≡ length (y ∷ xs) + m) × (slice_get ys m ≡ Some x))
-    go (inl k) = inl k
-    go (inr k) = inr (k.0, (let e = k.1 in omega (arith, e)), k.2)
 
 -- one element has one place
 get_only : {X : Type 0} (y : X) (n : ℕ) (x : X) → slice_get (y ∷ []) n ≡ Some x → (n ≡ 0) × (x ≡ y)
@@ -59,11 +47,6 @@ at_both get (Some x) (Some w) y z R h k r = subst (λ v. R v (get w)) h (subst (
 
 -- ---- the nodes of a tree
 
--- an expression without children
-pub tree_leaf : (t : Logical) (kids : List Logical) → kids ≡ (out-Logical t).kids → length kids < 1 → tree_of t ≡ leaf (out-Logical t).op
-tree_leaf t [] e h = opened t ∙ ap (λ l. node (out-Logical t).op (map tree_of l)) (sym e)
-tree_leaf t (k ∷ kids) e h = absurd (omega arith)
-
 -- the last node is the tree itself
 pub nodes_last : (t : Expression) → (xs : List Expression) × (nodes t ≡ xs ++ t ∷ [])
 nodes_last (leaf op) = ([], refl)
@@ -80,9 +63,6 @@ module _ (shared : List Facts) where
   top_there known (two op t u) n h = let m = some_and (slice_get known n) _ h in and_some (slice_get known n) _ m.0 m.1 m.2.0
 
   -- those below it are there too
-  pub below_has : (known : List NodeFacts) (op : LogicOp) (t : Expression) (n : ℕ) → HasFacts shared known (one op t) n → HasFacts shared known t (n - 1)
-  below_has known op t n h = (some_and (slice_get known n) _ h).2.1
-
   pub right_has : (known : List NodeFacts) (op : LogicOp) (t u : Expression) (n : ℕ) → HasFacts shared known (two op t u) n → HasFacts shared known u (n - 1)
   right_has known op t u n h = (some_and (slice_get known n) _ h).2.2
 
@@ -91,11 +71,6 @@ module _ (shared : List Facts) where
       let m = some_and (slice_get known n) _ h in
       let is : l ≡ m.0.left = subst (λ q. IfSome q (λ k. l ≡ k.left)) m.1 e in
       subst (λ (i : ℕ). HasFacts shared known t i) (sym is) m.2.1
-
-  -- and so if nothing is known
-  pub below_may : (known : List NodeFacts) (op : LogicOp) (t : Expression) (n : ℕ) → MayHaveFacts shared known (one op t) n → MayHaveFacts shared known t (n - 1)
-  below_may known op t n (inl e) = inl e
-  below_may known op t n (inr h) = inr (below_has known op t n h)
 
   pub right_may : (known : List NodeFacts) (op : LogicOp) (t u : Expression) (n : ℕ) → MayHaveFacts shared known (two op t u) n → MayHaveFacts shared known u (n - 1)
   right_may known op t u n (inl e) = inl e
@@ -148,7 +123,7 @@ module _ (shared : List Facts) where
       → IsPutAbove op (length middle - 1) middle after → ArePut shared (one op t) before after
   above_put op t before middle after formed put top = record {
     longer = (more.0 ++ k ∷ [], e ∙ ap (λ ks. ks ++ k ∷ []) more.1 ∙ append_assoc before more.0 (k ∷ []), length-append more.0 (k ∷ []) ∙ ap (λ n. n + 1) more.2 ∙ sym (length-append (nodes t) (one op t ∷ [])));
-    nodes = λ i u h. go i u (get_either (nodes t) (one op t ∷ []) i u h);
+    nodes = λ i u h. go i u (split_get (nodes t) (one op t ∷ []) i u h);
   }
     where
       k : NodeFacts
@@ -188,7 +163,7 @@ module _ (shared : List Facts) where
       → IsPutOver op (length middle - 1) (length both - 1) both after → ArePut shared (two op t u) before after
   over_put op t u before middle both after formed put beside top = record {
     longer = (more.0 ++ (rest.0 ++ k ∷ []), whole, counted);
-    nodes = λ i v h. go i v (get_either (nodes t) (nodes u ++ two op t u ∷ []) i v h);
+    nodes = λ i v h. go i v (split_get (nodes t) (nodes u ++ two op t u ∷ []) i v h);
   }
     where
       k : NodeFacts
@@ -245,7 +220,7 @@ module _ (shared : List Facts) where
       go : (i : ℕ) (v : Expression) → (slice_get (nodes t) i ≡ Some v) ⊎ ((m : ℕ) × (i ≡ length (nodes t) + m) × (slice_get (nodes u ++ two op t u ∷ []) m ≡ Some v))
           → HasFacts shared after v (length before + i)
       go i v (inl h) = last v (length before + i) (still v (length before + i) (put.nodes i v h))
-      go i v (inr h) = past (get_either (nodes u) (two op t u ∷ []) h.0 v h.2)
+      go i v (inr h) = past (split_get (nodes u) (two op t u ∷ []) h.0 v h.2)
         where
           f : length middle ≡ length before + length more.0
           f = ap length more.1 ∙ length-append before more.0
@@ -296,9 +271,6 @@ module _ (shared : List Facts) where
 pub record ArePutTrees (lent : List Facts) (all : List Expression) (n : ℕ) (trees : List (List NodeFacts)) : Type 0 where
   pub count : length trees ≡ n
   pub facts : (i : ℕ) (t : Expression) → i < n → slice_get all i ≡ Some t → IsSomeAnd (slice_get trees i) (λ known. HasNodes lent known t 0)
-
-pub no_trees : (lent : List Facts) (all : List Expression) → ArePutTrees lent all 0 []
-no_trees lent all = record { count = refl; facts = λ i t l e. absurd (omega (arith, l)) }
 
 -- the next tree
 pub put_tree : (lent : List Facts) (all : List Expression) (n : ℕ) (trees : List (List NodeFacts)) (known : List NodeFacts) (t : Expression) → ArePutTrees lent all n trees → slice_get all n ≡ Some t → HasNodes lent known t 0

@@ -127,10 +127,6 @@ module _ (dag : Dag) (place : Place) (tree : Expression) (here : slice_get (all_
   pub at_tree : (t : Expression) → IsAt dag place t → IsSomeAnd (slice_get (nodes tree) place.node) (λ node. IsPart place.part node t)
   at_tree t h = subst (λ o. IsSomeAnd o (λ u. IsSomeAnd (slice_get (nodes u) place.node) (λ node. IsPart place.part node t))) here h
 
-  -- the node's number is that of a node
-  pub node_there : (t : Expression) → IsAt dag place t → length (nodes tree) ≤ place.node → ⊥
-  node_there t h l = let m = some_and (slice_get (nodes tree) place.node) _ (at_tree t h) in let k = slice_get_within (nodes tree) place.node m.0 m.1 in omega arith
-
   module _ (node : Expression) (there : slice_get (nodes tree) place.node ≡ Some node) where
     -- the expression is a part of this node
     pub at_node : (t : Expression) → IsAt dag place t → IsPart place.part node t

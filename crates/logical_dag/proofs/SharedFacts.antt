@@ -1,5 +1,5 @@
 -- The facts of the shared results of a script hold of their bags, and so do the facts at its places.
-use Rattle.std.proofs.Common.{◌≡◌, ℕ, zero, suc, ◌<◌, List, [], ◌∷◌, map, take, length, refl, sym, ap, ap₂, ◌∙◌, subst, arith, Option, Some, None, slice_get}
+use Rattle.std.proofs.Common.{◌≡◌, ℕ, zero, suc, ◌<◌, ◌≤◌, List, [], ◌∷◌, map, take, length, refl, sym, ap, ap₂, ◌∙◌, subst, arith, Option, Some, None, slice_get}
 use Rattle.std.specs.Prelude.{IsSomeAnd, IfSome}
 use Rattle.std.specs.List.{take-map}
 use Rattle.col_sets.specs.Sets.{IsColumnSet}
@@ -20,14 +20,24 @@ use Rattle.logical_dag.specs.Places.{AreSharedFacts, AreFactsAt, StandsOver, Sha
 use Rattle.logical_trees.specs.ColumnLemmas.{columns_set}
 use Rattle.logical_dag.proofs.KnownHold.{facts_hold}
 use Rattle.logical_dag.proofs.Placed.{some_and, if_some, got_first, shared_columns, place_formed}
+use Rattle.std.proofs.lemmas.List.{take_all, length-map}
 
--- facts that are over the columns of the trees
-pub columns_lent : (trees : List Expression) (known : List Facts) → length known ≡ length trees
+-- the first facts are over the columns of the first trees
+pub first_columns : (n : ℕ) (trees : List Expression) (known : List Facts) → n ≤ length trees → n ≤ length known
+    → ((i : ℕ) → i < n → IfSome (slice_get trees i) (λ t. IsSomeAnd (slice_get known i) (λ f. f.columns ≡ columns_of t))) → take n (map columns_of trees) ≡ lent_columns (take n known)
+first_columns zero trees known l m h = refl
+first_columns (suc n) [] known l m h = absurd (omega arith)
+first_columns (suc n) (t ∷ trees) [] l m h = absurd (omega arith)
+first_columns (suc n) (t ∷ trees) (f ∷ known) l m h = ap₂ ◌∷◌ (sym (h 0 (omega arith))) (first_columns n trees known (omega arith) (omega arith) (λ i k. h (suc i) (omega arith)))
+
+-- and all are, where there are as many
+columns_lent : (trees : List Expression) (known : List Facts) → length known ≡ length trees
     → ((i : ℕ) → IfSome (slice_get trees i) (λ t. IsSomeAnd (slice_get known i) (λ f. f.columns ≡ columns_of t))) → map columns_of trees ≡ lent_columns known
-columns_lent [] [] e h = refl
-columns_lent [] (f ∷ known) e h = absurd (omega arith)
-columns_lent (t ∷ trees) [] e h = absurd (omega arith)
-columns_lent (t ∷ trees) (f ∷ known) e h = ap₂ ◌∷◌ (sym (h 0)) (columns_lent trees known (omega arith) (λ i. h (suc i)))
+columns_lent trees known e h =
+    let n = length known in
+    sym (take_all n (map columns_of trees) (let l = length-map trees columns_of in omega (arith, l, e)))
+    ∙ first_columns n trees known (omega (arith, e)) (omega arith) (λ i l. h i)
+    ∙ ap lent_columns (take_all n known (omega arith))
 
 -- where there is no tree, there are no facts
 no_more : {X Y : Type 0} (xs : List X) (ys : List Y) (i : ℕ) (y : Y) → length ys ≡ length xs → slice_get ys i ≡ Some y → (x : X) × (slice_get xs i ≡ Some x)

@@ -18,11 +18,7 @@ use Rattle.logical_trees.specs.MeaningLemmas.{some_bag}
 use Rattle.logical_trees.specs.OneBagLemmas.{one_bag}
 use Rattle.logical_dag.specs.Scripts.{IsWritten}
 use Rattle.logical_dag.specs.DagMeaning.{in_order_opt, AllStand, Writes, drawn, scan_rows, AreSameRows, AreSameOutputs, HaveSameBags, GiveSome, GiveOne, GiveSame, DagGivesSome, DagGivesOne}
-
-not_there : {X : Type 0} (xs : List X) (k : ℕ) → k < length xs → slice_get xs k ≡ None → ⊥
-not_there [] k l h = omega arith
-not_there (x ∷ xs) zero l h = absurd (cc)
-not_there (x ∷ xs) (suc k) l h = not_there xs k (omega arith) h
+use Rattle.list_lemmas.specs.Reading.{not_none}
 
 take_short : (xs : List (List ℕ)) (k : ℕ) → length (take k xs) ≤ k
 take_short xs zero = omega arith
@@ -68,7 +64,7 @@ module _ (ops : Operators) (scans : List Bag) where
       where
         here : ((j : ℕ) → j < n → IsPermutation (bag_at bags j) (bag_at others j)) → (o : Option Expression) → slice_get shared n ≡ o → IfSome o (IsWritten (take n (map columns_of shared)))
             → IsPermutation (bag_at bags n) (bag_at others n)
-        here before None e w = absurd (not_there shared n (omega arith) e)
+        here before None e w = absurd (not_none shared n (omega arith) e)
         here before (Some t) e w =
             one_over bags others (take n (map columns_of shared))
             (λ j q. before j (let k : length (take n (map columns_of shared)) ≤ n = take_short (map columns_of shared) n in omega (arith, q, k))) t (bag_at bags n) (bag_at others n) w
@@ -121,7 +117,7 @@ stand_push ops from [] (A ∷ bags) t B h k = absurd h
 stand_push ops from (u ∷ ts) [] t B h k = absurd h
 
 module _ (ops : Operators) (scans : List Bag) (results : List (List ℕ)) where
-  abbrev AreWrittenFrom : ℕ → List Expression → Type 0
+  abbrev pub AreWrittenFrom : ℕ → List Expression → Type 0
   AreWrittenFrom n ts = (i : ℕ) → IfSome (slice_get ts i) (IsWritten (take (n + i) results))
 
   later : (n : ℕ) (t : Expression) (ts : List Expression) → AreWrittenFrom n (t ∷ ts) → AreWrittenFrom (n + 1) ts
@@ -139,23 +135,27 @@ module _ (ops : Operators) (scans : List Bag) (results : List (List ℕ)) where
   stand_more bags others m same n [] (B ∷ cs) w l h = absurd h
   stand_more bags others m same n (t ∷ ts) [] w l h = absurd h
 
+  -- one tree more stands over one bag more
+  pub one_more : (front : List Expression) (bags : List Bag) (t : Expression) (B : Bag) → AreWrittenFrom 0 front → IsWritten (take (length front) results) t
+      → AllStand ops (record { scans = scans; shared = bags }) front bags → StandsFor ops (record { scans = scans; shared = bags }) t B
+      → AllStand ops (record { scans = scans; shared = bags ++ B ∷ [] }) (front ++ t ∷ []) (bags ++ B ∷ [])
+  one_more front bags t B w written h k =
+      let long : length front ≡ length bags = stand_length ops (record { scans = scans; shared = bags }) front bags h in
+      let same : (j : ℕ) → j < length bags → IsPermutation (bag_at bags j) (bag_at (bags ++ B ∷ []) j) = λ j l. same_permuted _ _ (bag_kept bags B j l) in
+      let over : StandsFor ops (record { scans = scans; shared = bags ++ B ∷ [] }) t B =
+      stands_over ops scans bags (bags ++ B ∷ []) (take (length front) results)
+      (λ j q. same j (let k : length (take (length front) results) ≤ length front = take_short results (length front) in omega (arith, q, k, long))) t B written.formed k in
+      stand_push ops (record { scans = scans; shared = bags ++ B ∷ [] }) front bags t B (stand_more bags (bags ++ B ∷ []) (length bags) same 0 front bags w (omega (arith, long)) h) over
+
   grow : (front : List Expression) (bags : List Bag) (rest : List Expression) → AllStand ops (record { scans = scans; shared = bags }) front bags → AreWrittenFrom 0 (front ++ rest)
       → (more : List Bag) × AllStand ops (record { scans = scans; shared = more }) (front ++ rest) more
   grow front bags [] h w = (bags, subst (λ (ts : List Expression). AllStand ops (record { scans = scans; shared = bags }) ts bags) (sym (append-nil front)) h)
   grow front bags (t ∷ rest) h w =
       let B = some_bag ops (record { scans = scans; shared = bags }) t (written.whole) in
-      let same : (j : ℕ) → j < length bags → IsPermutation (bag_at bags j) (bag_at (bags ++ B.0 ∷ []) j) = λ j l. same_permuted _ _ (bag_kept bags B.0 j l) in
-      let over : StandsFor ops (record { scans = scans; shared = bags ++ B.0 ∷ [] }) t B.0 =
-      stands_over ops scans bags (bags ++ B.0 ∷ []) (take (length front) results)
-      (λ j q. same j (let k : length (take (length front) results) ≤ length front = take_short results (length front) in omega (arith, q, k, long))) t B.0 written.formed B.1 in
-      let before = stand_more bags (bags ++ B.0 ∷ []) (length bags) same 0 front bags (fronts front rest w) (omega (arith, long)) h in
-      let next = grow (front ++ t ∷ []) (bags ++ B.0 ∷ []) rest (stand_push ops (record { scans = scans; shared = bags ++ B.0 ∷ [] }) front bags t B.0 before over)
+      let next = grow (front ++ t ∷ []) (bags ++ B.0 ∷ []) rest (one_more front bags t B.0 (fronts front rest w) written h B.1)
       (subst (λ (ts : List Expression). AreWrittenFrom 0 ts) (sym (append_assoc front (t ∷ []) rest)) w) in
       (next.0, subst (λ (ts : List Expression). AllStand ops (record { scans = scans; shared = next.0 }) ts next.0) (append_assoc front (t ∷ []) rest) next.1)
     where
-      long : length front ≡ length bags
-      long = stand_length ops (record { scans = scans; shared = bags }) front bags h
-
       at_front : (fs : List Expression) → IfSome (slice_get (fs ++ t ∷ rest) (length fs)) (IsWritten (take (0 + length front) results)) → IsWritten (take (0 + length front) results) t
       at_front [] p = p
       at_front (f ∷ fs) p = at_front fs p

@@ -35,19 +35,6 @@ right_leaf x t u on n past r e l h = subst (λ (y : Expression). IsLeafAt (block
 
 -- ---- equalities
 
-no_join_equalities : (x : Expression) (n : ℕ) → IsNoJoin x → block_equalities x n ≡ []
-no_join_equalities (two (Join on) t u) n other = absurd (other on t u refl)
-no_join_equalities (two op t u) n other = refl
-no_join_equalities (one op t) n other = refl
-no_join_equalities (leaf op) n other = refl
-
--- an expression that is no Join has none
-pub none_added : (x : Expression) (n : ℕ) (old : List Equality) → IsNoJoin x → old ≡ old ++ block_equalities x n
-none_added x n old other = sym (append-nil old) ∙ ap (λ l. old ++ l) (sym (no_join_equalities x n other))
-
-pub room_of_one : (x : Expression) (old : ℕ) → IsNoJoin x → old + 4 ≤ old + 4 * length (block_leaves x)
-room_of_one x old other = let e = ap length (no_join_leaves x other) in omega (arith, e)
-
 -- a Join has those of its sides and its own
 pub all_added : (x t u : Expression) (on : _) (n first : ℕ) (old left right new : List Equality) → x ≡ two (Join on) t u → first ≡ n - length (nodes u) - 1
     → left ≡ old ++ block_equalities t first → right ≡ left ++ block_equalities u (n - 1) → new ≡ right ++ map (equality n) on.items → new ≡ old ++ block_equalities x n

@@ -5,13 +5,9 @@ use Rattle.logical_trees.specs.declared.logical.Logical.{Logical, out-Logical}
 use Rattle.logical_trees.specs.Tree.{Expression, leaf, one, two, node, nodes, tree_of}
 use Rattle.logical_trees.specs.Numbers.{child_numbers}
 use Rattle.logical_trees.specs.NumberLemmas.{some_node, nodes_one, nodes_two}
-use Rattle.logical_trees.specs.ShapeLemmas.{opened, tree_one, tree_two}
+use Rattle.logical_trees.specs.ShapeLemmas.{tree_one, tree_two}
 
 -- ---- what the pattern says
-
-pub no_child : (t : Logical) (kids : List Logical) → kids ≡ (out-Logical t).kids → length kids < 1 → tree_of t ≡ leaf (out-Logical t).op
-no_child t [] e l = opened t ∙ ap (λ k. node (out-Logical t).op (map tree_of k)) (sym e)
-no_child t (u ∷ kids) e l = absurd (omega (arith, l))
 
 pub one_child : (t : Logical) (kids : List Logical) → kids ≡ (out-Logical t).kids → 1 ≤ length kids → length kids < 2 → (u : Logical) × (tree_of t ≡ one (out-Logical t).op (tree_of u))
 one_child t [] e l m = absurd (omega (arith, l))

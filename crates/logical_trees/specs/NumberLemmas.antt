@@ -1,19 +1,8 @@
 -- A node's children stand at their numbers.
 use Rattle.std.proofs.Common.{◌≡◌, ℕ, zero, suc, ◌+◌, ◌-◌, ◌<◌, ◌≤◌, List, [], ◌∷◌, ◌++◌, length, refl, sym, ap, ◌∙◌, subst, arith, append_assoc, length-append, ◌⊎◌, inl, inr, Some, slice_get}
-use Rattle.list_lemmas.specs.Reading.{get_front, get_past, get_last}
+use Rattle.list_lemmas.specs.Reading.{get_front, get_past, get_last, split_get}
 use Rattle.logical_trees.specs.Tree.{Expression, leaf, one, two, nodes}
 use Rattle.logical_trees.specs.Numbers.{children, child_numbers, FitsNumber, HasChildren}
-
--- what stands at a place of two lists stands in the first or in the second
-split_get : {X : Type 0} (xs ys : List X) (n : ℕ) (v : X) → slice_get (xs ++ ys) n ≡ Some v → (slice_get xs n ≡ Some v) ⊎ ((m : ℕ) × (n ≡ length xs + m) × (slice_get ys m ≡ Some v))
-split_get [] ys n v h = inr (n, omega arith, h)
-split_get (x ∷ xs) ys zero v h = inl h
-split_get (x ∷ xs) ys (suc n) v h = go (split_get xs ys n v h)
-  where
-    go : (slice_get xs n ≡ Some v) ⊎ ((m : ℕ) × (n ≡ length xs + m) × (slice_get ys m ≡ Some v))
-        → (slice_get (x ∷ xs) (suc n) ≡ Some v) ⊎ ((m : ℕ) × (suc n ≡ length (x ∷ xs) + m) × (slice_get ys m ≡ Some v))
-    go (inl k) = inl k
-    go (inr k) = let e : n ≡ length xs + k.0 = k.1 in inr (k.0, omega (arith, e), k.2)
 
 -- at the only place of a list of one
 only_get : {X : Type 0} (x v : X) (m : ℕ) → slice_get (x ∷ []) m ≡ Some v → (m ≡ 0) × (v ≡ x)

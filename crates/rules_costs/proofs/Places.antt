@@ -23,6 +23,8 @@ use Rattle.rules_tables.proofs.Table.{block_found, node_got}
 use Rattle.rules_costs.specs.Places.{part_size, node_part, place_size, part_of, node_with, leaves_at_block, size_at}
 use Rattle.rules_costs.specs.Laws.{IsSizeOfPlace}
 use Rattle.rules_space.specs.Place.{Leaves, Whole, Half, Block}
+use Rattle.col_sets.specs.Tests.{from_test}
+use Rattle.rules_places.proofs.Masks.{low_bit}
 
 pub has_pairs : (tree : Expression) → ArePairsOf (pairs_at tree) tree
 has_pairs tree base n m L leaves out p v i num = ap pairs_of (block_found tree base n m L leaves out p v i num)
@@ -32,17 +34,10 @@ has_pairs tree base n m L leaves out p v i num = ap pairs_of (block_found tree b
 equal_itself : (n : ℕ) → nat_eq n n ≡ true
 equal_itself n = grind (arith, nat_tests)
 
-is_equal : (n m : ℕ) → nat_eq n m ≡ true → n ≡ m
-is_equal n m h = grind (arith, nat_tests)
-
 node_found : (tree : Expression) (v : Numbered) → In v (numbered 0 tree) → node_with tree (number v) ≡ Some v
-node_found tree v m = first_is (λ w. nat_eq (top_number w.0 w.1) (number v)) (numbered 0 tree) v m (equal_itself (number v)) (λ w i e. unique 0 tree w v i m (is_equal (number w) (number v) e))
+node_found tree v m = first_is (λ w. nat_eq (top_number w.0 w.1) (number v)) (numbered 0 tree) v m (equal_itself (number v)) (λ w i e. unique 0 tree w v i m (from_test (number w) (number v) e))
 
 -- ---- some leaves
-
-low_bit : (n : ℕ) (b : Bool) → nat_eq ((n * 2 + cond b 1 0) % 2) 1 ≡ b
-low_bit n true = let e : (n * 2 + 1) % 2 ≡ 1 = omega arith in rw e refl
-low_bit n false = let e : (n * 2 + 0) % 2 ≡ 0 = omega arith in rw e refl
 
 high_bits : (n : ℕ) (b : Bool) → (n * 2 + cond b 1 0) / 2 ≡ n
 high_bits n true = omega arith

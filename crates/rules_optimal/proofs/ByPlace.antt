@@ -16,7 +16,7 @@ use Rattle.logical_trees.specs.Formed.{IsFormed}
 use Rattle.logical_dag.specs.Facts.{AreFactsOf}
 use Rattle.logical_trees.specs.Blocks.{block_pairs, IsPairing}
 use Rattle.list_lemmas.specs.Bags.{same_permuted}
-use Rattle.list_lemmas.specs.Members.{in_list, list_in}
+use Rattle.list_lemmas.specs.Members.{in_list, list_in, in_moved}
 use Rattle.logical_trees.specs.LeafLemmas.{AreApart, apart_left, apart_right, apart_permuted}
 use Rattle.logical_trees.specs.JoinLemmas.{join_formed}
 use Rattle.logical_trees.specs.BlockLemmas.{block_apart}
@@ -36,9 +36,6 @@ use Rattle.rules_space.specs.declared.kind.Kind.TheVariants as kind
 use Rattle.rules_space.specs.Place.{Place, Leaves, Whole, Half, Block, leaves_at, place}
 
 -- ---- numbered expressions
-
-pub moved : (x : ℕ × Expression) (xs ys : List (ℕ × Expression)) → IsPermutation xs ys → In x xs → In x ys
-moved x xs ys p h = in_list ys x (Contains-permutation xs ys x p (list_in xs x h))
 
 -- an expression is one of its own
 pub itself_in : (base : ℕ) (t : Expression) → In (base, t) (numbered base t)
@@ -119,11 +116,11 @@ module _ (results : List (List ℕ)) where
       go left right = ((λ n. found (tests.either (leaves_at (place x) m) (leaves_at (place y) m) n)), λ n. back n.0 n.2 (in_append n.0 before beside (moved_back n.0 n.1)))
         where
           moved_back : (v : ℕ × Expression) → In v leaves → In v (before ++ beside)
-          moved_back v i = moved v leaves (before ++ beside) (IsPermutation-sym (before ++ beside) leaves p) i
+          moved_back v i = in_moved v leaves (before ++ beside) (IsPermutation-sym (before ++ beside) leaves p) i
 
           found : (leaves_at (place x) m ≡ true) ⊎ (leaves_at (place y) m ≡ true) → (v : ℕ × Expression) × In v leaves × (top_number v.0 v.1 ≡ m)
-          found (inl n) = let w = left.0 n in (w.0, moved w.0 (before ++ beside) leaves p (in_left w.0 before beside w.1), w.2)
-          found (inr n) = let w = right.0 n in (w.0, moved w.0 (before ++ beside) leaves p (in_right w.0 before beside w.1), w.2)
+          found (inl n) = let w = left.0 n in (w.0, in_moved w.0 (before ++ beside) leaves p (in_left w.0 before beside w.1), w.2)
+          found (inr n) = let w = right.0 n in (w.0, in_moved w.0 (before ++ beside) leaves p (in_right w.0 before beside w.1), w.2)
 
           back : (v : ℕ × Expression) → top_number v.0 v.1 ≡ m → In v before ⊎ In v beside → (leaves_at (place x) m || leaves_at (place y) m) ≡ true
           back v e (inl i) = or_left (leaves_at (place x) m) (leaves_at (place y) m) (left.1 (v, i, e))
@@ -132,7 +129,7 @@ module _ (results : List (List ℕ)) where
   pub knit_leaf : (pairs : List (ℕ × ℕ)) (leaves : List (ℕ × Expression)) (u : Expression) (s : Shape) → IsKnit pairs leaves u s → (v : ℕ × Expression) × In v leaves
   knit_leaf pairs leaves u s (alone base {t = t} g r) = ((base, t), inl refl)
   knit_leaf pairs leaves u s (both {before = before} {beside = beside} on {t = a} {r = x} j k p d) =
-      let v = knit_leaf pairs before a x j in (v.0, moved v.0 (before ++ beside) leaves p (in_left v.0 before beside v.1))
+      let v = knit_leaf pairs before a x j in (v.0, in_moved v.0 (before ++ beside) leaves p (in_left v.0 before beside v.1))
 
   -- ---- by place
 
@@ -234,13 +231,13 @@ module _ (results : List (List ℕ)) where
           (IsPermutation-trans _ _ _ (same_permuted _ _ (sym (append_assoc before beside out))) (IsPermutation-trans _ _ _ (IsPermutation-append_left out _ _ q) p))
           (on_left_leaves results pairs (leaves_of before) (leaves_of beside) (leaves_of leaves) (leaves_permuted before beside leaves q) h)
           (apart_left (leaves_of before) (leaves_of beside) (apart_permuted (leaves_of before ++ leaves_of beside) (leaves_of leaves) (leaves_permuted before beside leaves q) apart))
-          (λ v i. inside v (moved v (before ++ beside) leaves q (in_left v before beside i))) (λ v i. blocks v (moved v (before ++ beside) leaves q (in_left v before beside i))) j)
+          (λ v i. inside v (in_moved v (before ++ beside) leaves q (in_left v before beside i))) (λ v i. blocks v (in_moved v (before ++ beside) leaves q (in_left v before beside i))) j)
           (knit_known base n m pairs beside (before ++ out) c y e
           (IsPermutation-trans _ _ _ (same_permuted _ _ (sym (append_assoc beside before out)))
           (IsPermutation-trans _ _ _ (IsPermutation-append_left out _ _ (IsPermutation-append_comm beside before)) (IsPermutation-trans _ _ _ (IsPermutation-append_left out _ _ q) p)))
           (on_right_leaves results pairs (leaves_of before) (leaves_of beside) (leaves_of leaves) (leaves_permuted before beside leaves q) h)
           (apart_right (leaves_of before) (leaves_of beside) (apart_permuted (leaves_of before ++ leaves_of beside) (leaves_of leaves) (leaves_permuted before beside leaves q) apart))
-          (λ v i. inside v (moved v (before ++ beside) leaves q (in_right v before beside i))) (λ v i. blocks v (moved v (before ++ beside) leaves q (in_right v before beside i))) k)
+          (λ v i. inside v (in_moved v (before ++ beside) leaves q (in_right v before beside i))) (λ v i. blocks v (in_moved v (before ++ beside) leaves q (in_right v before beside i))) k)
 
     -- each node of what steps reach from the tree goes by its place
     pub by_place : (u : Expression) (s : Shape) → IsFormed results tree → IsShaped 0 tree u s → AreByPlace T u s

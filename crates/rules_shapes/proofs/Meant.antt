@@ -18,7 +18,7 @@ use Rattle.logical_trees.specs.Blocks.{block_pairs, IsAcross}
 use Rattle.list_lemmas.specs.Bags.{same_permuted}
 use Rattle.logical_trees.specs.ColumnLemmas.{into_union}
 use Rattle.logical_trees.specs.LeafLemmas.{HasColumn}
-use Rattle.list_lemmas.specs.Members.{in_list, list_in}
+use Rattle.list_lemmas.specs.Members.{in_list, list_in, in_moved}
 use Rattle.rules_steps.specs.Steps.{Pairs, IsDealt, Step, here, below, on_left, on_right, Reaches, stays, after}
 use Rattle.rules_steps.specs.Steps as steps
 use Rattle.rules_steps.proofs.Kept.{step_same, step_formed, reached_same}
@@ -34,9 +34,6 @@ use Rattle.rules_shapes.specs.Shapes.{Shape, size, top_number, numbered_leaves, 
 use Rattle.rules_shapes.proofs.Knit.{leaves_of, leaves_permuted, leaves_are, grown_of}
 use Rattle.rules_shapes.proofs.Shaped.{own}
 use Rattle.rules_shapes.proofs.Lists.{is_dealt, link_found}
-
-moved : (x : ℕ × Expression) (xs ys : List (ℕ × Expression)) → IsPermutation xs ys → In x xs → In x ys
-moved x xs ys p h = in_list ys x (Contains-permutation xs ys x p (list_in xs x h))
 
 -- a Join's shape
 abbrev is_two : Shape → Bool
@@ -90,10 +87,10 @@ module _ (results : List (List ℕ)) (S : Script) where
 
   module _ (pairs : List (ℕ × ℕ)) (before beside all : List (ℕ × Expression)) (p : IsPermutation (before ++ beside) all) (h : AreMeant pairs all) where
     left_in : (v : ℕ × Expression) → In v before → In v all
-    left_in v m = moved v (before ++ beside) all p (in_left v before beside m)
+    left_in v m = in_moved v (before ++ beside) all p (in_left v before beside m)
 
     right_in : (v : ℕ × Expression) → In v beside → In v all
-    right_in v m = moved v (before ++ beside) all p (in_right v before beside m)
+    right_in v m = in_moved v (before ++ beside) all p (in_right v before beside m)
 
     left_meant : AreMeant pairs before
     left_meant = record {

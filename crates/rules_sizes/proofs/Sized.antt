@@ -18,7 +18,7 @@ use Rattle.rules_places.proofs.Grown.{AreLeaves, of_block, on_left_leaves, on_ri
 use Rattle.rules_shapes.specs.Shapes.{Shape, size, numbered_leaves, IsShaped, of_leaf, of_one, of_group, of_top, of_two, of_join, IsKnit, alone, both}
 use Rattle.rules_shapes.proofs.Knit.{leaves_of, leaves_permuted, leaves_are}
 use Rattle.rules_optimal.specs.Places.{numbered, tops, HasNumbers}
-use Rattle.rules_optimal.proofs.ByPlace.{moved, leaf_numbered, leaf_tops, left_tops, right_tops, knit_numbers, knit_leaf}
+use Rattle.rules_optimal.proofs.ByPlace.{leaf_numbered, leaf_tops, left_tops, right_tops, knit_numbers, knit_leaf}
 use Rattle.rules_sizes.specs.Sizes.{Size, Sizes, one_size, two_size, one_rows, group_rows, join_size, leaf_sizes, size_of, by_number, node_number, shape_sizes, reached_size}
 use Rattle.rules_sizes.specs.Places.{leaves_size, ArePairsOf, AreSizesOf, AreSized}
 use Rattle.rules_sizes.proofs.Sorting.{AreDifferent, AreAscending, sort_alike, ascending_different, sorted_is}
@@ -27,6 +27,7 @@ use Rattle.rules_space.specs.Tree as shape
 use Rattle.rules_space.specs.declared.kind.Kind.{Kind}
 use Rattle.rules_space.specs.declared.kind.Kind.TheVariants as kind
 use Rattle.rules_space.specs.Place.{Place, Leaves, Block, leaves_at, place}
+use Rattle.list_lemmas.specs.Members.{in_moved}
 
 -- ---- a Group or Top in two steps
 
@@ -65,7 +66,7 @@ sizes_within Z base (one op t) x (inr m) = absurd m
 sizes_within Z base (leaf op) x (inl e) = let k = ap (λ (y : Size). y.number) e in (omega (arith, k), omega (arith, k))
 sizes_within Z base (leaf op) x (inr m) = absurd m
 
-ascending_append : (xs ys : List Size) → AreAscending xs → AreAscending ys → ((x y : Size) → In x xs → In y ys → x.number < y.number) → AreAscending (xs ++ ys)
+pub ascending_append : (xs ys : List Size) → AreAscending xs → AreAscending ys → ((x y : Size) → In x xs → In y ys → x.number < y.number) → AreAscending (xs ++ ys)
 ascending_append [] ys a b h = b
 ascending_append (x ∷ xs) ys a b h = ((λ y m. go y (in_append y xs ys m)), ascending_append xs ys a.1 b (λ z y i j. h z y (inr i) j))
   where
@@ -199,11 +200,11 @@ module _ (results : List (List ℕ)) (Z : Sizes) (pairs : Place → List (ℕ ×
           IsPermutation-trans _ _ _ (IsPermutation-append _ _ _ _
           (knit_same base n m ps before (beside ++ out) a x e
           (IsPermutation-trans _ _ _ (same_permuted _ _ (sym (append_assoc before beside out))) (IsPermutation-trans _ _ _ (IsPermutation-append_left out _ _ q) p))
-          (on_left_leaves results ps (leaves_of before) (leaves_of beside) (leaves_of leaves) (leaves_permuted before beside leaves q) h) (λ v i. blocks v (moved v (before ++ beside) leaves q (in_left v before beside i))) j)
+          (on_left_leaves results ps (leaves_of before) (leaves_of beside) (leaves_of leaves) (leaves_permuted before beside leaves q) h) (λ v i. blocks v (in_moved v (before ++ beside) leaves q (in_left v before beside i))) j)
           (knit_same base n m ps beside (before ++ out) c y e
           (IsPermutation-trans _ _ _ (same_permuted _ _ (sym (append_assoc beside before out)))
           (IsPermutation-trans _ _ _ (IsPermutation-append_left out _ _ (IsPermutation-append_comm beside before)) (IsPermutation-trans _ _ _ (IsPermutation-append_left out _ _ q) p)))
-          (on_right_leaves results ps (leaves_of before) (leaves_of beside) (leaves_of leaves) (leaves_permuted before beside leaves q) h) (λ v i. blocks v (moved v (before ++ beside) leaves q (in_right v before beside i))) k))
+          (on_right_leaves results ps (leaves_of before) (leaves_of beside) (leaves_of leaves) (leaves_permuted before beside leaves q) h) (λ v i. blocks v (in_moved v (before ++ beside) leaves q (in_right v before beside i))) k))
           (IsPermutation-trans _ _ _ (same_permuted _ _ (sym (owns_both Z before beside))) (IsPermutation-map (λ (v : Numbered). size_of Z v.0 v.1) (before ++ beside) leaves q))
 
     -- ---- by place
@@ -265,10 +266,10 @@ module _ (results : List (List ℕ)) (Z : Sizes) (pairs : Place → List (ℕ ×
           knit_sized base n m ps before (beside ++ out) a x e
               (IsPermutation-trans _ _ _ (same_permuted _ _ (sym (append_assoc before beside out))) (IsPermutation-trans _ _ _ (IsPermutation-append_left out _ _ q) p))
               (on_left_leaves results ps (leaves_of before) (leaves_of beside) (leaves_of leaves) (leaves_permuted before beside leaves q) h)
-              (λ v i. inside v (moved v (before ++ beside) leaves q (in_left v before beside i))) (λ v i. blocks v (moved v (before ++ beside) leaves q (in_left v before beside i))) j,
+              (λ v i. inside v (in_moved v (before ++ beside) leaves q (in_left v before beside i))) (λ v i. blocks v (in_moved v (before ++ beside) leaves q (in_left v before beside i))) j,
           knit_sized base n m ps beside (before ++ out) c y e
               (IsPermutation-trans _ _ _ (same_permuted _ _ (sym (append_assoc beside before out)))
               (IsPermutation-trans _ _ _ (IsPermutation-append_left out _ _ (IsPermutation-append_comm beside before)) (IsPermutation-trans _ _ _ (IsPermutation-append_left out _ _ q) p)))
               (on_right_leaves results ps (leaves_of before) (leaves_of beside) (leaves_of leaves) (leaves_permuted before beside leaves q) h)
-              (λ v i. inside v (moved v (before ++ beside) leaves q (in_right v before beside i))) (λ v i. blocks v (moved v (before ++ beside) leaves q (in_right v before beside i))) k,
+              (λ v i. inside v (in_moved v (before ++ beside) leaves q (in_right v before beside i))) (λ v i. blocks v (in_moved v (before ++ beside) leaves q (in_right v before beside i))) k,
         )

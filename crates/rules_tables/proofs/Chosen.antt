@@ -19,6 +19,8 @@ use Rattle.rules_sizes.proofs.Sorting.{AreDifferent, AreAscending, sort_alike, a
 use Rattle.rules_sizes.proofs.Numbers.{Numbered, number, leaf_range, number_above}
 use Rattle.rules_tables.specs.Tables.{first_of, any_in, mask_by}
 use Rattle.rules_space.specs.Place.{Leaves}
+use Rattle.rules_places.proofs.Masks.{low_bit}
+use Rattle.rules_sizes.proofs.Sized.{ascending_append}
 
 -- ---- the first that passes
 
@@ -66,14 +68,6 @@ tagged : (xs : List Numbered) (y : Size) → In y (tags xs) → (v : Numbered) �
 tagged [] y m = absurd m
 tagged (x ∷ xs) y (inl e) = (x, inl refl, e)
 tagged (x ∷ xs) y (inr m) = let k = tagged xs y m in (k.0, inr k.1, k.2)
-
-ascending_append : (xs ys : List Size) → AreAscending xs → AreAscending ys → ((x y : Size) → In x xs → In y ys → x.number < y.number) → AreAscending (xs ++ ys)
-ascending_append [] ys a b h = b
-ascending_append (x ∷ xs) ys a b h = ((λ y m. go y (in_append y xs ys m)), ascending_append xs ys a.1 b (λ z y i j. h z y (inr i) j))
-  where
-    go : (y : Size) → In y xs ⊎ In y ys → x.number < y.number
-    go y (inl m) = a.0 y m
-    go y (inr m) = h x y (inl refl) m
 
 tags_ascend : (base : ℕ) (t : Expression) → AreAscending (tags (numbered_leaves base t))
 tags_ascend base (two (Join on) t u) =
@@ -138,10 +132,6 @@ picked base n L leaves out p num =
         go true e = let v = (num (number w)).0 e in absurd (out_apart base n leaves out p v.0 w v.1 m v.2)
 
 -- ---- and chosen by the mask
-
-low_bit : (n : ℕ) (b : Bool) → nat_eq ((n * 2 + cond b 1 0) % 2) 1 ≡ b
-low_bit n true = let e : (n * 2 + 1) % 2 ≡ 1 = omega arith in rw e refl
-low_bit n false = let e : (n * 2 + 0) % 2 ≡ 0 = omega arith in rw e refl
 
 high_bits : (n : ℕ) (b : Bool) → (n * 2 + cond b 1 0) / 2 ≡ n
 high_bits n true = omega arith

@@ -22,12 +22,12 @@ use Rattle.rules_places.specs.Space.{is_block}
 use Rattle.rules_shapes.specs.Shapes.{size, top_number, numbered_leaves}
 use Rattle.rules_shapes.proofs.Knit.{leaves_of, leaves_are}
 use Rattle.rules_optimal.specs.Places.{numbered, tops, HasNumbers, IsTableOf}
-use Rattle.rules_optimal.proofs.ByPlace.{moved}
 use Rattle.rules_sizes.proofs.Numbers.{Numbered, number}
 use Rattle.rules_tables.specs.Tables.{any_in, block_with, mask_by, leaves_place, pairs_of, op_of, first_step, second_step, Costs, table_of, AreKnown}
 use Rattle.rules_tables.proofs.Unique.{top_in, top_block, one_block_by}
 use Rattle.rules_tables.proofs.Chosen.{first_is, any_true, any_found, picks, picked, chosen_picks, join_moved}
 use Rattle.rules_space.specs.Place.{Leaves}
+use Rattle.list_lemmas.specs.Members.{in_moved}
 
 -- ---- nodes by number
 
@@ -84,7 +84,7 @@ block_found tree base n m L leaves out p v i num =
     first_is (λ x. any_in L (numbered_leaves x.0 x.1)) (tops false 0 tree) (base, n) m (any_true L (numbered_leaves base n) v (inside v i) ((num (number v)).1 (v, i, refl))) only
   where
     inside : (w : Numbered) → In w leaves → In w (numbered_leaves base n)
-    inside w j = moved w (leaves ++ out) (numbered_leaves base n) p (in_left w leaves out j)
+    inside w j = in_moved w (leaves ++ out) (numbered_leaves base n) p (in_left w leaves out j)
 
     only : (y : Numbered) → In y (tops false 0 tree) → any_in L (numbered_leaves y.0 y.1) ≡ true → y ≡ (base, n)
     only y k h =

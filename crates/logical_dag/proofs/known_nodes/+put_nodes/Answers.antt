@@ -5,8 +5,8 @@ use Rattle.logical_trees.specs.Tree.{tree_of}
 use Rattle.logical_trees.specs.Formed.{IsFormed}
 use Rattle.logical_dag.specs.Laws.{lent_columns}
 use Rattle.logical_dag.specs.KnownNodes.{IsPutAbove, IsPutOver}
-use Rattle.logical_trees.specs.ShapeLemmas.{tree_one, tree_two}
-use Rattle.logical_dag.proofs.KnownNodes.{tree_leaf, last_has, kept_has, above_asks, over_asks, above_put, over_put, if_ok_more}
+use Rattle.logical_trees.specs.ShapeLemmas.{tree_one, tree_two, no_child}
+use Rattle.logical_dag.proofs.KnownNodes.{last_has, kept_has, above_asks, over_asks, above_put, over_put, if_ok_more}
 use Rattle.logical_dag.proofs.known_nodes.+put_nodes.Goals as goal
 
 pub put_above-requires : goal.put_above-requires
@@ -80,5 +80,5 @@ returns-in_ok-put_nodes-in-len2-up-2 t c =
 
 pub returns-in-empty : goal.returns-in-empty
 returns-in-empty t c =
-    let shape = tree_leaf c.args.tree.now c.as_slice.result.now c.as_slice.ensures c.in-empty.len_below in
+    let shape = no_child c.args.tree.now c.as_slice.result.now c.as_slice.ensures c.in-empty.len_below in
     rw shape c.put_leaf.ensures

@@ -1,7 +1,8 @@
 use Rattle.std.proofs.Common.{arith}
 use Rattle.logical_trees.specs.Tree.{tree_of}
-use Rattle.logical_trees.proofs.NodeNumbers.{no_child, one_child, two_children, many_one, many_two, none_numbered, one_numbered, one_past, left_numbered, right_numbered}
+use Rattle.logical_trees.proofs.NodeNumbers.{one_child, two_children, many_one, many_two, none_numbered, one_numbered, one_past, left_numbered, right_numbered}
 use Rattle.logical_trees.proofs.nodes.child_number.Goals as goal
+use Rattle.logical_trees.specs.ShapeLemmas.{no_child}
 
 pub overflow_sub-result : goal.overflow_sub-result
 overflow_sub-result c =
