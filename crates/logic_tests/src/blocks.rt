@@ -1,8 +1,11 @@
 // Join blocks: their leaves and equalities, and the Dags that they may stand in.
-use crate::making::{beside_scan, on_pair, scan, set_of};
+ghost use Rattle.std.specs.Prelude.{◌≡◌};
+ghost use Rattle.logical_trees.specs.Tree.{tree_of};
+ghost use Rattle.logical_trees.specs.Worked as worked;
+
+use crate::making::{beside_scan, columns_in, on_pair, scan, set_of};
 use crate::scripts::rows_out;
 use crate::trees::three_joined;
-use col_sets::ColId;
 use logical_dag::{Dag, Equality, Logical, block_equalities, block_leaf, columns_of};
 use sqlite_items::Items;
 use std::alloc::{AllocError, Global};
@@ -41,18 +44,25 @@ fn a_block_has_at_most_five_leaves(rt: HostRuntime) -> Result<(), Fail> {
     Ok(())
 }
 
-// The leaves have the columns 0, then 1 and 2, then 3. Node 2 joins the first two, and node 4 these with the third.
-#[test]
-fn leaves_and_equalities_come_from_the_left(rt: HostRuntime) -> Result<(), Fail> {
-    let tree = three_joined(rt.alloc())?;
-    let leaves: [(u32, &[ColId]); 3] = [(0, &[0]), (1, &[1, 2]), (2, &[3])];
-    for (number, columns) in leaves {
-        match block_leaf(&tree, number) {
-            Ok(leaf) => assert_eq!(rt; columns_of(leaf), set_of(columns)),
-            Err(past) => assert_eq!(rt; past, 9),
-        }
+fn has_leaf(tree: &Logical, number: u32, columns: &str) -> bool {
+    match block_leaf(tree, number) {
+        Ok(leaf) => columns_of(leaf) == columns_in(columns),
+        Err(_) => false,
     }
-    assert!(rt; matches!(block_leaf(&tree, 5), Err(2)));
+}
+
+// The leaves have the columns 0, then 1 and 2, then 3, and number 5 is two past the last.
+fn leaves_are_so(tree: &Logical) -> bool {
+    has_leaf(tree, 0, "0")
+        && has_leaf(tree, 1, "1.2")
+        && has_leaf(tree, 2, "3")
+        && matches!(block_leaf(tree, 5), Err(2))
+}
+
+// Node 2 joins the first two leaves, and node 4 these with the third.
+fn equalities_are_so(tree: &Logical) -> bool
+    requires { tree_of tree.now ≡ worked.three_joined }
+{
     let first = Equality {
         node: 2,
         left: 0,
@@ -63,9 +73,14 @@ fn leaves_and_equalities_come_from_the_left(rt: HostRuntime) -> Result<(), Fail>
         left: 1,
         right: 3,
     };
-    assert_eq!(rt;
-        block_equalities(&tree, 4).as_slice(),
-        [first, second].as_slice()
-    );
+    block_equalities(tree, 4).as_slice() == [first, second].as_slice()
+}
+
+#[test]
+fn leaves_and_equalities_come_from_the_left(rt: HostRuntime) -> Result<(), Fail> {
+    let tree = three_joined(rt.alloc())?;
+    let is_so = leaves_are_so(&tree) && equalities_are_so(&tree);
+    drop(tree);
+    assert!(rt; is_so);
     Ok(())
 }

@@ -1,114 +1,160 @@
 // What is known of the rows of small expressions, worked out by hand.
-use crate::making::set_of;
+ghost use Rattle.logical_dag.specs.Scripts.{IsBindable};
+
+use crate::making::columns_in;
 use crate::scripts::{Script, dag_of};
-use col_sets::{ColId, ColSet};
 use fd_closure::{Facts, closure};
-use logical_dag::{DagFacts, Place, PlacePart, facts_at};
+use logical_dag::{Dag, DagFacts, Place, PlacePart, facts_at};
 use std::alloc::{AllocError, Global};
-use std::process::Abort;
 use std::test::Fail;
 
-// What is known of it: its columns, the constants, and the columns that those of `from` force.
-#[derive(Clone, Copy)]
-struct Known {
-    columns: ColSet,
-    constants: ColSet,
-    from: ColSet,
-    forced: ColSet,
+// The tables have a row a line: the tree, the node, the part of it (`whole`, `lower` for its first step, or leaves of its block), and what
+// is known of the rows there: their columns, the constants, some columns and those that these force. Lines with `#` say why.
+
+// Counts of rows of four columns: a scan, a Filter over it and a Group by column 1 on top.
+const COUNTS: &str = "
+# Of a scan nothing is known but its columns.
+0 0 whole 0.1.2.3 - - -
+0 0 whole 0.1.2.3 - 0 0
+0 0 whole 0.1.2.3 - 1 1
+0 0 whole 0.1.2.3 - 2 2
+0 0 whole 0.1.2.3 - 3 3
+0 0 whole 0.1.2.3 - 0.3 0.3
+# The Filter's columns 0 to 2 are linked, and its column 3 is constant: a signed number is no constant.
+0 1 whole 0.1.2.3 3 - 3
+0 1 whole 0.1.2.3 3 0 0.1.2.3
+0 1 whole 0.1.2.3 3 1 0.1.2.3
+0 1 whole 0.1.2.3 3 2 0.1.2.3
+0 1 whole 0.1.2.3 3 3 3
+0 1 whole 0.1.2.3 3 0.2 0.1.2.3
+# It has no first step.
+0 1 lower - - 1 1
+# Above the Group the columns that are no key are gone, and the key determines the aggregate.
+0 2 whole 1.4 - - -
+0 2 whole 1.4 - 1 1.4
+0 2 whole 1.4 - 4 4
+0 2 whole 1.4 - 1.4 1.4
+# Its first step knows of its key alone.
+0 2 lower 1.4 - - -
+0 2 lower 1.4 - 1 1
+0 2 lower 1.4 - 4 4
+# There is no node 3 and no tree 1.
+0 3 whole - - 1 1
+1 0 whole - - 1 1
+";
+
+// A Join of three scans, whose columns are 0, then 1 and 2, then 3: node 2 joins the first two, and node 4 these with the third.
+const JOINS: &str = "
+# The three scans, of which nothing is known.
+0 0 whole 0 - 0 0
+0 1 whole 1.2 - 1 1
+0 1 whole 1.2 - 2 2
+0 3 whole 3 - 3 3
+# The first Join sets columns 0 and 1 equal, and the second one 1 and 3.
+0 2 whole 0.1.2 - - -
+0 2 whole 0.1.2 - 0 0.1
+0 2 whole 0.1.2 - 1 0.1
+0 2 whole 0.1.2 - 2 2
+0 4 whole 0.1.2.3 - - -
+0 4 whole 0.1.2.3 - 0 0.1.3
+0 4 whole 0.1.2.3 - 1 0.1.3
+0 4 whole 0.1.2.3 - 2 2
+0 4 whole 0.1.2.3 - 3 0.1.3
+0 4 whole 0.1.2.3 - 2.3 0.1.2.3
+# Of some leaves of a block what is set equal across them counts alone.
+0 4 0 0 - 0 0
+0 4 1 1.2 - 1 1
+0 4 0.1 0.1.2 - 0 0.1
+0 4 0.1 0.1.2 - 2 2
+0 4 1.2 1.2.3 - 1 1.3
+0 4 1.2 1.2.3 - 3 1.3
+0 4 0.1.2 0.1.2.3 - 0 0.1.3
+0 2 1 1.2 - 1 1
+0 2 0.1 0.1.2 - 0 0.1
+";
+
+fn word(row: &str, at: usize) -> &str {
+    row.split(' ').nth(at).unwrap_or("")
 }
 
-fn known_of(columns: &[ColId], constants: &[ColId], from: &[ColId], forced: &[ColId]) -> Known {
-    Known {
-        columns: set_of(columns),
-        constants: set_of(constants),
-        from: set_of(from),
-        forced: set_of(forced),
+fn number(text: &str) -> u32 {
+    text.parse::<u32>().unwrap_or(u32::MAX)
+}
+
+// The bits of the leaves of these numbers.
+fn leaves_in(text: &str) -> u8 {
+    let mut leaves = 0u8;
+    for word in text.split('.') {
+        leaves |= match word {
+            "0" => 1,
+            "1" => 2,
+            "2" => 4,
+            _ => 0,
+        };
+    }
+    leaves
+}
+
+fn part_in(text: &str) -> PlacePart {
+    match text {
+        "whole" => PlacePart::Whole,
+        "lower" => PlacePart::Lower,
+        _ => PlacePart::Leaves(leaves_in(text)),
     }
 }
 
-fn check_facts(rt: &impl Abort, facts: &Facts, wanted: &Known) {
-    assert_eq!(rt; facts.columns, wanted.columns);
-    assert_eq!(rt; facts.constants, wanted.constants);
-    assert_eq!(rt; closure(facts, wanted.from), wanted.forced);
+fn place_in(row: &str) -> Place {
+    Place {
+        tree: number(word(row, 0)),
+        node: number(word(row, 1)),
+        part: part_in(word(row, 2)),
+    }
+}
+
+fn are_known(facts: &Facts, row: &str) -> bool {
+    facts.columns == columns_in(word(row, 3))
+        && facts.constants == columns_in(word(row, 4))
+        && closure(facts, columns_in(word(row, 5))) == columns_in(word(row, 6))
 }
 
 // The facts at the place, as they are worked out and as they are looked up.
-fn check(
-    rt: &impl Abort,
+fn is_so(dag: &Dag, facts: &DagFacts, row: &str) -> bool
+    requires { IsBindable dag.now }
+{
+    let place = place_in(row);
+    are_known(&facts_at(dag, &place), row) && are_known(&facts.at(&place), row)
+}
+
+// How many rows of the table are so, and the line of the first that isn't.
+fn checked(dag: &Dag, facts: &DagFacts, table: &str) -> (usize, Option<usize>)
+    requires { IsBindable dag.now }
+{
+    let mut rows = 0usize;
+    for (at, row) in table.split('\n').enumerate() {
+        if row.is_empty() || row.starts_with('#') {
+            continue;
+        }
+        if !is_so(dag, facts, row) {
+            return (rows, Some(at));
+        }
+        rows = rows.saturating_add(1);
+    }
+    (rows, None)
+}
+
+fn checked_of(
     alloc: Global,
     script: Script,
-    place: Place,
-    wanted: Known,
-) -> Result<(), AllocError> {
+    table: &str,
+) -> Result<(usize, Option<usize>), AllocError> {
     let dag = dag_of(alloc, script)?;
-    check_facts(rt, &facts_at(&dag, &place), &wanted);
-    let known = DagFacts::new(alloc, &dag)?;
-    check_facts(rt, &known.at(&place), &wanted);
-    Ok(())
+    let facts = DagFacts::new(alloc, &dag)?;
+    Ok(checked(&dag, &facts, table))
 }
 
-// Node 1 is the Filter, whose columns 0 to 2 are linked and whose column 3 is constant: a signed number is no constant.
-// Above the Group, node 2, the columns that are no key are gone, and the key determines the aggregate; its first step knows
-// of its key alone. A Filter has no first step; there is no node 3 and no tree 1.
 #[test]
-fn parts_of_a_group_have_their_facts(rt: HostRuntime) -> Result<(), Fail> {
-    let table: [(u32, u32, PlacePart, &[ColId], &[ColId], &[ColId], &[ColId]); 10] = [
-        (0, 0, PlacePart::Whole, &[0, 1, 2, 3], &[], &[1], &[1]),
-        (
-            0,
-            1,
-            PlacePart::Whole,
-            &[0, 1, 2, 3],
-            &[3],
-            &[1],
-            &[0, 1, 2, 3],
-        ),
-        (
-            0,
-            1,
-            PlacePart::Whole,
-            &[0, 1, 2, 3],
-            &[3],
-            &[2],
-            &[0, 1, 2, 3],
-        ),
-        (0, 1, PlacePart::Whole, &[0, 1, 2, 3], &[3], &[], &[3]),
-        (0, 1, PlacePart::Lower, &[], &[], &[1], &[1]),
-        (0, 2, PlacePart::Whole, &[1, 4], &[], &[1], &[1, 4]),
-        (0, 2, PlacePart::Whole, &[1, 4], &[], &[4], &[4]),
-        (0, 2, PlacePart::Lower, &[1, 4], &[], &[1], &[1]),
-        (0, 3, PlacePart::Whole, &[], &[], &[1], &[1]),
-        (1, 0, PlacePart::Whole, &[], &[], &[1], &[1]),
-    ];
-    for (tree, node, part, columns, constants, from, forced) in table {
-        let place = Place { tree, node, part };
-        let wanted = known_of(columns, constants, from, forced);
-        check(&rt, rt.alloc(), Script::Counts, place, wanted)?;
-    }
-    Ok(())
-}
-
-// Node 4 joins the leaves 0 to 2, whose columns are 0, then 1 and 2, then 3, and node 2 the first two of them. Of some of
-// them what is set equal across them counts alone.
-#[test]
-fn parts_of_a_block_have_their_facts(rt: HostRuntime) -> Result<(), Fail> {
-    let table: [(u32, u8, &[ColId], &[ColId], &[ColId]); 7] = [
-        (4, 0b001, &[0], &[0], &[0]),
-        (4, 0b010, &[1, 2], &[1], &[1]),
-        (4, 0b011, &[0, 1, 2], &[0], &[0, 1]),
-        (4, 0b110, &[1, 2, 3], &[1], &[1, 3]),
-        (4, 0b111, &[0, 1, 2, 3], &[0], &[0, 1, 3]),
-        (2, 0b010, &[1, 2], &[1], &[1]),
-        (2, 0b011, &[0, 1, 2], &[0], &[0, 1]),
-    ];
-    for (node, leaves, columns, from, forced) in table {
-        let place = Place {
-            tree: 0,
-            node,
-            part: PlacePart::Leaves(leaves),
-        };
-        let wanted = known_of(columns, &[], from, forced);
-        check(&rt, rt.alloc(), Script::Joins, place, wanted)?;
-    }
+fn expressions_have_their_facts(rt: HostRuntime) -> Result<(), Fail> {
+    assert_eq!(rt; checked_of(rt.alloc(), Script::Counts, COUNTS)?, (22, None));
+    assert_eq!(rt; checked_of(rt.alloc(), Script::Joins, JOINS)?, (23, None));
     Ok(())
 }

@@ -16,6 +16,15 @@ pub fn set_of(cols: &[ColId]) -> ColSet {
     ColSet::of(cols)
 }
 
+/// A set of columns as the tables write it: its members parted by dots, and `-` for none.
+pub fn columns_in(text: &str) -> ColSet {
+    let mut set = ColSet::empty();
+    for word in text.split('.') {
+        set = set.with(word.parse::<ColId>().unwrap_or(ColId::MAX));
+    }
+    set
+}
+
 /// The scan of that number.
 pub fn scan(alloc: Global, number: u32, cols: ColSet) -> Logical
     ensures { tree_of result ≡ leaf (LogicOp.Scan number cols) }

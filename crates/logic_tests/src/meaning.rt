@@ -1,8 +1,10 @@
 // Small expressions with the rows that come in and those that go out, worked out by hand.
-ghost use Rattle.logic_tests.specs.Calling.{HasEach};
+ghost use Rattle.logical_trees.specs.Tree.{tree_of};
+ghost use Rattle.logic_tests.specs.Calling.{HasEach, AreCalledFirst};
 
 use crate::nodes::{Shape, expression};
 use crate::operators::each_shown;
+use logical_dag::Logical;
 use plain_meaning::plain_bag;
 use scope_value::{Cell, Row, Value};
 use std::alloc::{AllocError, Global};
@@ -50,19 +52,6 @@ fn bags_of(alloc: Global, text: &str) -> Result<Vec<Vec<Row>>, AllocError> {
     Ok(bags)
 }
 
-// The rows of the expression over these scans, which stand for its shared results too.
-fn rows_over(
-    alloc: Global,
-    ops: &OpSet,
-    shape: Shape,
-    scans: &[Vec<Row>],
-) -> Result<Option<Vec<Row>>, AllocError>
-    requires { HasEach (⟦<OpSet as Tells>⟧.tells ops.now) }
-{
-    let tree = expression(alloc, shape)?;
-    plain_bag(alloc, &tree, ops, scans, scans)
-}
-
 // The rows of the table; none where a node has not its children.
 fn wanted_rows(alloc: Global, wanted: Option<&str>) -> Result<Option<Vec<Row>>, AllocError> {
     match wanted {
@@ -79,6 +68,35 @@ fn are_same(a: &Option<Vec<Row>>, b: &Option<Vec<Row>>) -> bool {
     }
 }
 
+// Whether the expression gives these rows over these scans, which stand for its shared results too.
+fn is_given(
+    alloc: Global,
+    ops: &OpSet,
+    tree: &Logical,
+    scans: &[Vec<Row>],
+    wanted: Option<&str>,
+) -> Result<bool, AllocError>
+    requires each { HasEach (⟦<OpSet as Tells>⟧.tells ops.now) }
+    requires called { AreCalledFirst (tree_of tree.now) }
+{
+    let rows = plain_bag(alloc, tree, ops, scans, scans)?;
+    Ok(are_same(&rows, &wanted_rows(alloc, wanted)?))
+}
+
+// The same of the expression of that shape.
+fn shape_gives(
+    alloc: Global,
+    ops: &OpSet,
+    shape: Shape,
+    scans: &[Vec<Row>],
+    wanted: Option<&str>,
+) -> Result<bool, AllocError>
+    requires { HasEach (⟦<OpSet as Tells>⟧.tells ops.now) }
+{
+    let tree = expression(alloc, shape)?;
+    is_given(alloc, ops, &tree, scans, wanted)
+}
+
 fn gives(
     alloc: Global,
     ops: &OpSet,
@@ -89,8 +107,7 @@ fn gives(
     requires { HasEach (⟦<OpSet as Tells>⟧.tells ops.now) }
 {
     let bags = bags_of(alloc, scans)?;
-    let rows = rows_over(alloc, ops, shape, bags.as_slice())?;
-    Ok(are_same(&rows, &wanted_rows(alloc, wanted)?))
+    shape_gives(alloc, ops, shape, bags.as_slice(), wanted)
 }
 
 // The first row of the table that isn't so.
@@ -117,6 +134,20 @@ fn first_wrong(alloc: Global, ops: &OpSet) -> Result<Option<usize>, AllocError>
             "a,2,4,4|_,2,-1,-3|b,1,_,_",
         ),
         (Shape::Grouped, "", ""),
+    ];
+    for (at, (shape, scans, wanted)) in table.iter().enumerate() {
+        if !gives(alloc, ops, *shape, scans, Some(wanted))? {
+            return Ok(Some(at));
+        }
+    }
+    Ok(None)
+}
+
+// The same of steps and of operators that are called.
+fn first_wrong_step(alloc: Global, ops: &OpSet) -> Result<Option<usize>, AllocError>
+    requires { HasEach (⟦<OpSet as Tells>⟧.tells ops.now) }
+{
+    let table = [
         // Each row is a part of its own.
         (Shape::Partial, "a,1|b,_|a,2", "a,1,w1,1|b,1,_,_|a,1,w2,2"),
         // The partial rows of `a,1|b,_` and of `a,2|a,_|b,_` finish to the groups of all five rows. The sum of key b is
@@ -149,13 +180,41 @@ fn first_wrong(alloc: Global, ops: &OpSet) -> Result<Option<usize>, AllocError>
     Ok(None)
 }
 
+// The first rows that aren't so of both tables, and whether a Join of one child stands for no bag.
+fn all_rows(alloc: Global, ops: &OpSet) -> Result<(Option<usize>, Option<usize>, bool), AllocError>
+    requires { HasEach (⟦<OpSet as Tells>⟧.tells ops.now) }
+{
+    Ok((
+        first_wrong(alloc, ops)?,
+        first_wrong_step(alloc, ops)?,
+        gives(alloc, ops, Shape::JoinOfOne, "1", None)?,
+    ))
+}
+
 #[test]
 fn expressions_give_their_rows(rt: HostRuntime) -> Result<(), Fail> {
     let ops = each_shown(&rt, rt.alloc())?;
-    assert_eq!(rt; first_wrong(rt.alloc(), &ops)?, None);
-    // It stands for no bag.
-    assert!(rt; gives(rt.alloc(), &ops, Shape::JoinOfOne, "1", None)?);
+    let rows = all_rows(rt.alloc(), &ops);
+    drop(ops);
+    assert_eq!(rt; rows?, (None, None, true));
     Ok(())
+}
+
+// Whether the whole and the steps give these rows.
+fn both_give(
+    alloc: Global,
+    ops: &OpSet,
+    whole: Shape,
+    steps: Shape,
+    rows: &str,
+    wanted: &str,
+) -> Result<bool, AllocError>
+    requires { HasEach (⟦<OpSet as Tells>⟧.tells ops.now) }
+{
+    Ok(
+        gives(alloc, ops, whole, rows, Some(wanted))?
+            && gives(alloc, ops, steps, rows, Some(wanted))?,
+    )
 }
 
 // The first row of the table of which the whole or the steps aren't so.
@@ -182,50 +241,61 @@ fn first_apart(alloc: Global, ops: &OpSet) -> Result<Option<usize>, AllocError>
             "a,9223372036854775807|a,1",
             "a,2,_,1",
         ),
-        // There is one row, also of no rows and of nulls alone. A sum of more than 64 bits is null, and what is on the way
-        // to a sum doesn't count.
-        (Shape::Counted, Shape::CountedInSteps, "", "0,0,0,_,_,_,0"),
-        (
-            Shape::Counted,
-            Shape::CountedInSteps,
-            "_|_",
-            "2,0,0,_,_,_,0",
-        ),
-        (
-            Shape::Counted,
-            Shape::CountedInSteps,
-            "3|_|-5|4",
-            "4,3,2,2,-5,4,0",
-        ),
-        (
-            Shape::Counted,
-            Shape::CountedInSteps,
-            "9223372036854775807|1",
-            "2,2,2,_,1,9223372036854775807,0",
-        ),
-        (
-            Shape::Counted,
-            Shape::CountedInSteps,
-            "9223372036854775807|1|-1",
-            "3,3,2,9223372036854775807,-1,9223372036854775807,0",
-        ),
         // Rows that tie in the column go by all values.
         (Shape::Top, Shape::TopInSteps, "x,3|y,5|a,5|b,5", "a,5|b,5"),
     ];
     for (at, (whole, steps, rows, wanted)) in table.iter().enumerate() {
-        let is_so = gives(alloc, ops, *whole, rows, Some(wanted))?
-            && gives(alloc, ops, *steps, rows, Some(wanted))?;
-        if !is_so {
+        if !both_give(alloc, ops, *whole, *steps, rows, wanted)? {
             return Ok(Some(at));
         }
     }
     Ok(None)
 }
 
+// The same of all aggregates without keys.
+fn first_apart_count(alloc: Global, ops: &OpSet) -> Result<Option<usize>, AllocError>
+    requires { HasEach (⟦<OpSet as Tells>⟧.tells ops.now) }
+{
+    let table = [
+        // There is one row, also of no rows and of nulls alone. A sum of more than 64 bits is null, and what is on the way
+        // to a sum doesn't count.
+        ("", "0,0,0,_,_,_,0"),
+        ("_|_", "2,0,0,_,_,_,0"),
+        ("3|_|-5|4", "4,3,2,2,-5,4,0"),
+        ("9223372036854775807|1", "2,2,2,_,1,9223372036854775807,0"),
+        (
+            "9223372036854775807|1|-1",
+            "3,3,2,9223372036854775807,-1,9223372036854775807,0",
+        ),
+    ];
+    for (at, (rows, wanted)) in table.iter().enumerate() {
+        if !both_give(
+            alloc,
+            ops,
+            Shape::Counted,
+            Shape::CountedInSteps,
+            rows,
+            wanted,
+        )? {
+            return Ok(Some(at));
+        }
+    }
+    Ok(None)
+}
+
+// The first rows of both tables that aren't so.
+fn all_apart(alloc: Global, ops: &OpSet) -> Result<(Option<usize>, Option<usize>), AllocError>
+    requires { HasEach (⟦<OpSet as Tells>⟧.tells ops.now) }
+{
+    Ok((first_apart(alloc, ops)?, first_apart_count(alloc, ops)?))
+}
+
 // Whole and in two steps.
 #[test]
 fn two_steps_give_the_rows_of_one(rt: HostRuntime) -> Result<(), Fail> {
     let ops = each_shown(&rt, rt.alloc())?;
-    assert_eq!(rt; first_apart(rt.alloc(), &ops)?, None);
+    let rows = all_apart(rt.alloc(), &ops);
+    drop(ops);
+    assert_eq!(rt; rows?, (None, None));
     Ok(())
 }

@@ -15,10 +15,16 @@ use sqlite_items::{Boxed, Items};
 use std::alloc::{AllocError, Global};
 use std::test::Fail;
 
-fn is_text_of(alloc: Global, tree: &Logical, wanted: &str) -> Result<bool, AllocError> {
+/// Whether the expression has this text.
+pub fn is_text_of(alloc: Global, tree: &Logical, wanted: &str) -> Result<bool, AllocError> {
     let mut text = Vec::new(alloc);
     write_tree(tree, &mut text)?;
     Ok(text.as_slice() == wanted.as_bytes())
+}
+
+fn is_text_of_shape(alloc: Global, shape: Shape, wanted: &str) -> Result<bool, AllocError> {
+    let tree = expression(alloc, shape)?;
+    is_text_of(alloc, &tree, wanted)
 }
 
 // The first row of the table that isn't so.
@@ -66,7 +72,7 @@ fn first_wrong_node(alloc: Global) -> Result<Option<usize>, AllocError> {
         ),
     ];
     for (at, (shape, wanted)) in table.iter().enumerate() {
-        if !is_text_of(alloc, &expression(alloc, *shape)?, wanted)? {
+        if !is_text_of_shape(alloc, *shape, wanted)? {
             return Ok(Some(at));
         }
     }
@@ -80,6 +86,16 @@ fn filtered(alloc: Global, predicate: Expr) -> Result<Logical, AllocError> {
         LogicOp::Filter(predicate),
         scan(alloc, 0, ColSet::empty()),
     )
+}
+
+fn has_operator(alloc: Global, tree: &Logical, word: &str) -> Result<bool, AllocError> {
+    let wanted = format!(in alloc; "0 scan 0 -> -\n1 filter (#7 {word} -5) over 0\n")?;
+    is_text_of(alloc, tree, wanted.as_str())
+}
+
+fn operator_is_so(alloc: Global, op: PairOp, word: &str) -> Result<bool, AllocError> {
+    let tree = filtered(alloc, pair(alloc, op, column(7), number(-5))?)?;
+    has_operator(alloc, &tree, word)
 }
 
 // The first operator whose text isn't so.
@@ -100,9 +116,7 @@ fn first_wrong_operator(alloc: Global) -> Result<Option<usize>, AllocError> {
         (PairOp::Rem, "%"),
     ];
     for (at, (op, word)) in table.iter().enumerate() {
-        let tree = filtered(alloc, pair(alloc, *op, column(7), number(-5))?)?;
-        let wanted = format!(in alloc; "0 scan 0 -> -\n1 filter (#7 {word} -5) over 0\n")?;
-        if !is_text_of(alloc, &tree, wanted.as_str())? {
+        if !operator_is_so(alloc, *op, word)? {
             return Ok(Some(at));
         }
     }
@@ -116,26 +130,35 @@ fn signed(alloc: Global, v: Value, w: Value) -> Result<Expr, AllocError> {
     Ok(Expr::Not(Boxed::new(alloc, equation)?))
 }
 
-// Null, truth values and strings, with what has an escape in a string.
-fn literals_are_so(alloc: Global) -> Result<bool, AllocError> {
+fn is_text_of_signed(alloc: Global, v: Value, w: Value, wanted: &str) -> Result<bool, AllocError> {
+    let tree = filtered(alloc, signed(alloc, v, w)?)?;
+    is_text_of(alloc, &tree, wanted)
+}
+
+// Null and truth values.
+fn nulls_are_so(alloc: Global) -> Result<bool, AllocError> {
+    is_text_of_signed(
+        alloc,
+        Value::Null,
+        Value::Bool(true),
+        "0 scan 0 -> -\n1 filter !((-(NULL) == TRUE)) over 0\n",
+    )
+}
+
+// Strings, with what has an escape there.
+fn strings_are_so(alloc: Global) -> Result<bool, AllocError> {
     let quotes = Cell::from_slice(alloc, b"a\"b\\c")?;
     let lines = Cell::from_slice(alloc, b"\n\r\t'")?;
-    let nulls = filtered(alloc, signed(alloc, Value::Null, Value::Bool(true))?)?;
-    let texts = filtered(
+    is_text_of_signed(
         alloc,
-        signed(alloc, Value::Bytes(quotes), Value::Bytes(lines))?,
-    )?;
-    let nulls_so = is_text_of(
-        alloc,
-        &nulls,
-        "0 scan 0 -> -\n1 filter !((-(NULL) == TRUE)) over 0\n",
-    )?;
-    let texts_so = is_text_of(
-        alloc,
-        &texts,
+        Value::Bytes(quotes),
+        Value::Bytes(lines),
         "0 scan 0 -> -\n1 filter !((-(\"a\\\"b\\\\c\") == \"\\n\\r\\t'\")) over 0\n",
-    )?;
-    Ok(nulls_so && texts_so)
+    )
+}
+
+fn literals_are_so(alloc: Global) -> Result<bool, AllocError> {
+    Ok(nulls_are_so(alloc)? && strings_are_so(alloc)?)
 }
 
 // A schema with a column of each type.
