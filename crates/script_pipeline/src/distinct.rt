@@ -31,7 +31,7 @@ impl Named for Item {
     }
 }
 
-/// Whether none of these has the name of one before it. Quadratic: callers ask it of at most 128.
+/// Whether none of these has the name of one before it. Quadratic: callers ask it of at most `MAX_COLUMNS`.
 pub fn have_distinct_names<T: Named>(items: &[T]) -> bool
     ensures { result ≡ are_distinct T.named items.now }
 {

@@ -4,14 +4,12 @@ ghost use Rattle.script_pipeline.specs.Pipeline as spec;
 
 use crate::distinct::have_distinct_names;
 use crate::select::selection;
+use col_sets::MAX_COLUMNS;
 use scope_expr::Expr;
 use scope_value::{Cell, Column, Schema};
 use script_trees::{Call, Command, Script, Select, Statement};
 use sqlite_items::Items as Sequence;
 use std::alloc::{AllocError, Global};
-
-/// The most columns that a script may declare and select together.
-pub const MAX_COLUMNS: usize = 128;
 
 /// Which rows a SELECT keeps, all where there is no predicate, and the columns that it gives of each.
 #[derive(Drop)]

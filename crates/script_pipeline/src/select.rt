@@ -4,8 +4,8 @@ ghost use Rattle.script_pipeline.specs.Pipeline as spec;
 ghost use Rattle.script_pipeline.specs.Results as results;
 
 use crate::distinct::have_distinct_names;
-use crate::pipeline::{MAX_COLUMNS, Selection};
-use col_sets::ColSet;
+use crate::pipeline::Selection;
+use col_sets::{ColSet, MAX_COLUMNS};
 use scope_expr::{Entry, Expr, Scope, eval, holds, takes_truth, typed};
 use scope_value::{Cell, Column, Row};
 use script_trees::{Item, Items, Joined, Origin, RawExpr, Select};
@@ -211,7 +211,7 @@ pub fn first_columns(count: usize) -> ColSet
     ensures { result ≡ results.first_columns count }
 {
     let mut columns = ColSet::empty();
-    for column in 0..count.min(128) as u32 {
+    for column in 0..count.min(MAX_COLUMNS) as u32 {
         columns = columns.with(column);
     }
     columns

@@ -356,6 +356,8 @@ fn wrong_type(alloc: Global) -> Result<Option<usize>, AllocError> {
         (null, Around::Nothing, Ok(ColType::Text)),
         (small, Around::Nothing, Ok(ColType::Int)),
         (small, Around::Neg, Ok(ColType::Long)),
+        (truth, Around::Not, Ok(ColType::Bool)),
+        (null, Around::Not, Ok(ColType::Bool)),
     ];
     for (at, (leaf, around, want)) in table.iter().enumerate() {
         if !has_type(alloc, *leaf, *around, *want)? {
