@@ -1,0 +1,9 @@
+pub mod Causeless
+pub mod SightPlaces
+pub mod ViewPlaces
+pub mod Mentions
+pub mod Limits
+pub mod Distinct
+pub mod Within
+pub mod Headings
+pub mod Placed

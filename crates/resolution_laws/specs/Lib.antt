@@ -1,0 +1,4 @@
+pub mod Causeless
+pub mod Laws
+pub mod LimitLaws
+pub mod PlaceLaws
