@@ -7,7 +7,6 @@ use scope_shipped::{
     InnerPairs, LogExtractor, MultiSetDifference, SplitWords, TextExtractor, TopQueries,
 };
 use scope_syntax::parse;
-use scope_value::Cell;
 use std::alloc::{AllocError, Global};
 use std::test::Fail;
 use user_ops::OpSet;
@@ -484,52 +483,38 @@ const FAULTS: [(&str, u32, BindCause); 88] = [
     ),
 ];
 
+// Without its combiner an outer join is a call of an operator that isn't there, whatever else is amiss.
+fn is_combiner_missed(alloc: Global, ops: &OpSet) -> Result<bool, AllocError> {
+    let text = "SELECT x.k AS k FROM e AS x LEFT JOIN g AS y ON x.k == y.q";
+    Ok(match answer_behind(alloc, ops, text)? {
+        Answer::Fault(fault) => fault.statement == 3 && fault.cause == BindCause::UnknownOperator,
+        _ => false,
+    })
+}
+
 #[test]
 fn scripts_bind_or_have_a_cause(rt: HostRuntime) -> Result<(), Fail> {
     let alloc = rt.alloc();
-    let names = [
-        Cell::from_slice(alloc, b"LogExtractor")?,
-        Cell::from_slice(alloc, b"TextExtractor")?,
-        Cell::from_slice(alloc, b"SplitWords")?,
-        Cell::from_slice(alloc, b"TopQueries")?,
-        Cell::from_slice(alloc, b"MultiSetDifference")?,
-        Cell::from_slice(alloc, b"InnerPairs")?,
-        Cell::from_slice(alloc, b"LeftPairs")?,
-        Cell::from_slice(alloc, b"RightPairs")?,
-        Cell::from_slice(alloc, b"FullPairs")?,
-    ];
-    let [log, text, split, top, difference, pairs, left, right, full] = names;
     let mut ops = OpSet::new(alloc);
     let op = Box::new(alloc, LogExtractor)?;
-    assert!(rt; ops.add_extractor(log, op).is_ok());
+    assert!(rt; ops.put_extractor(alloc, b"LogExtractor", op));
     let op = Box::new(alloc, TextExtractor)?;
-    assert!(rt; ops.add_extractor(text, op).is_ok());
+    assert!(rt; ops.put_extractor(alloc, b"TextExtractor", op));
     let op = Box::new(alloc, SplitWords)?;
-    assert!(rt; ops.add_processor(split, op).is_ok());
+    assert!(rt; ops.put_processor(alloc, b"SplitWords", op));
     let op = Box::new(alloc, TopQueries)?;
-    assert!(rt; ops.add_reducer(top, op).is_ok());
+    assert!(rt; ops.put_reducer(alloc, b"TopQueries", op));
     let op = Box::new(alloc, MultiSetDifference)?;
-    assert!(rt; ops.add_combiner(difference, op).is_ok());
+    assert!(rt; ops.put_combiner(alloc, b"MultiSetDifference", op));
     let op = Box::new(alloc, InnerPairs)?;
-    assert!(rt; ops.add_combiner(pairs, op).is_ok());
-    assert_eq!(rt;
-        first_wrong(
-            alloc,
-            &ops,
-            &[(
-                "SELECT x.k AS k FROM e AS x LEFT JOIN g AS y ON x.k == y.q",
-                3,
-                BindCause::UnknownOperator
-            )]
-        )?,
-        1
-    );
+    assert!(rt; ops.put_combiner(alloc, b"InnerPairs", op));
+    assert!(rt; is_combiner_missed(alloc, &ops)?);
     let op = Box::new(alloc, LeftPairs)?;
-    assert!(rt; ops.add_combiner(left, op).is_ok());
+    assert!(rt; ops.put_combiner(alloc, b"LeftPairs", op));
     let op = Box::new(alloc, RightPairs)?;
-    assert!(rt; ops.add_combiner(right, op).is_ok());
+    assert!(rt; ops.put_combiner(alloc, b"RightPairs", op));
     let op = Box::new(alloc, FullPairs)?;
-    assert!(rt; ops.add_combiner(full, op).is_ok());
+    assert!(rt; ops.put_combiner(alloc, b"FullPairs", op));
     assert_eq!(rt; first_unbound(alloc, &ops, &BINDING)?, BINDING.len());
     assert_eq!(rt; first_wrong(alloc, &ops, &FAULTS)?, FAULTS.len());
     Ok(())

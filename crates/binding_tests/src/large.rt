@@ -3,7 +3,6 @@
 use crate::causes::{Answer, answer_of};
 use binding_causes::{BindCause, BindFault, LimitKind};
 use scope_shipped::TextExtractor;
-use scope_value::Cell;
 use std::alloc::{AllocError, Global};
 use std::test::Fail;
 use user_ops::OpSet;
@@ -21,9 +20,9 @@ fn repeated(alloc: Global, piece: &str, count: u32, last: &str) -> Result<String
 // An EXTRACT of so many columns and then this text.
 fn wide(alloc: Global, count: u32, last: &str) -> Result<String, AllocError> {
     let mut text = String::from_str(alloc, "e = EXTRACT c")?;
-    for at in 0..count - 1 {
+    for at in 1..count {
         text.push_str(", c")?;
-        for _ in 0..=at {
+        for _ in 0..at {
             text.push_str("x")?;
         }
     }
@@ -52,10 +51,9 @@ fn is_fault(
 #[test]
 fn limits_are_met_exactly(rt: HostRuntime) -> Result<(), Fail> {
     let alloc = rt.alloc();
-    let name = Cell::from_slice(alloc, b"TextExtractor")?;
-    let op = Box::new(alloc, TextExtractor)?;
     let mut ops = OpSet::new(alloc);
-    assert!(rt; ops.add_extractor(name, op).is_ok());
+    let op = Box::new(alloc, TextExtractor)?;
+    assert!(rt; ops.put_extractor(alloc, b"TextExtractor", op));
     let extract = "EXTRACT a FROM \"x\" USING TextExtractor; ";
     let columns = BindCause::Limit(LimitKind::Columns);
     assert!(rt; binds(alloc, &ops, &repeated(alloc, extract, 64, "")?)?);

@@ -94,7 +94,9 @@ fn shape_gives(
     requires { HasEach (⟦<OpSet as Tells>⟧.tells ops.now) }
 {
     let tree = expression(alloc, shape)?;
-    is_given(alloc, ops, &tree, scans, wanted)
+    let given = is_given(alloc, ops, &tree, scans, wanted);
+    drop(tree);
+    given
 }
 
 fn gives(

@@ -33,16 +33,18 @@ fn has_none(alloc: Global, texts: &[&str]) -> Result<bool, AllocError> {
 fn words_have_one_reading(rt: HostRuntime) -> Result<(), Fail> {
     known_lines();
     let alloc = rt.alloc();
-    assert!(reads_as(alloc, &["scope", "run", "s"], "s", None)?);
-    assert!(reads_as(
-        alloc,
-        &["scope", "run", "s", "--sizes", "z"],
-        "s",
-        Some("z")
-    )?);
-    assert!(reads_as(alloc, &["scope", "--sizes=z", "run", "s"], "s", Some("z"))?);
-    assert!(has_none(alloc, &["scope", "run"])?);
-    assert!(has_none(alloc, &["scope", "plan", "s"])?);
-    assert!(has_none(alloc, &["scope", "run", "s", "--parts", "2"])?);
+    assert!(rt; reads_as(alloc, &["scope", "run", "s"], "s", None)?);
+    assert!(rt;
+        reads_as(
+            alloc,
+            &["scope", "run", "s", "--sizes", "z"],
+            "s",
+            Some("z")
+        )?
+    );
+    assert!(rt; reads_as(alloc, &["scope", "--sizes=z", "run", "s"], "s", Some("z"))?);
+    assert!(rt; has_none(alloc, &["scope", "run"])?);
+    assert!(rt; has_none(alloc, &["scope", "plan", "s"])?);
+    assert!(rt; has_none(alloc, &["scope", "run", "s", "--parts", "2"])?);
     Ok(())
 }
