@@ -1,5 +1,5 @@
 // Parts of expressions.
-ghost use Rattle.std.specs.Prelude.{◌≡◌, [], ◌∷◌, map, IfOk};
+ghost use Rattle.std.specs.Prelude.{◌≡◌, IfOk};
 ghost use Rattle.logical_trees.specs.Tree.{leaf, one, two, tree_of};
 ghost use Rattle.logical_trees.specs.Worked as worked;
 
@@ -8,7 +8,7 @@ use col_sets::{ColId, ColSet};
 use logical_dag::{LogicOp, Logical};
 use scope_expr::{Expr, PairOp};
 use scope_value::{ColType, Value};
-use sqlite_items::{Boxed, Items};
+use sqlite_items::Boxed;
 use std::alloc::{AllocError, Global};
 
 /// The set of the columns.
@@ -29,19 +29,14 @@ pub fn columns_in(text: &str) -> ColSet {
 pub fn scan(alloc: Global, number: u32, cols: ColSet) -> Logical
     ensures { tree_of result ≡ leaf (LogicOp.Scan number cols) }
 {
-    Logical {
-        op: LogicOp::Scan { scan: number, cols },
-        kids: Items::new(alloc),
-    }
+    Logical::leaf(alloc, LogicOp::Scan { scan: number, cols })
 }
 
 /// An operator over one child.
 pub fn over(alloc: Global, op: LogicOp, kid: Logical) -> Result<Logical, AllocError>
     ensures { IfOk result (λ t. tree_of t ≡ one op (tree_of kid)) }
 {
-    let mut kids = Items::new(alloc);
-    kids.push(kid)?;
-    Ok(Logical { op, kids })
+    Logical::one(alloc, op, kid)
 }
 
 /// The same over two, the right one being the scan of that number.
@@ -54,28 +49,7 @@ pub fn beside_scan(
 ) -> Result<Logical, AllocError>
     ensures { IfOk result (λ t. tree_of t ≡ two op (tree_of left) (leaf (LogicOp.Scan number cols))) }
 {
-    match with_scan(alloc, left, number, cols) {
-        Ok(kids) => Ok(Logical { op, kids }),
-        Err(error) => {
-            drop(op);
-            Err(error)
-        }
-    }
-}
-
-// The expression and the scan of that number.
-fn with_scan(
-    alloc: Global,
-    left: Logical,
-    number: u32,
-    cols: ColSet,
-) -> Result<Items<Logical>, AllocError>
-    ensures { IfOk result (λ kids. map tree_of kids ≡ tree_of left ∷ leaf (LogicOp.Scan number cols) ∷ []) }
-{
-    let mut kids = Items::new(alloc);
-    kids.push(left)?;
-    kids.push(scan(alloc, number, cols))?;
-    Ok(kids)
+    Logical::two(alloc, op, left, scan(alloc, number, cols))
 }
 
 /// The pairs of rows that agree in the columns `a` on the left and `b` on the right.

@@ -4,7 +4,7 @@ ghost use Rattle.logical_trees.specs.Tree.{tree_of};
 ghost use Rattle.normal_meaning.specs.Sinking.{normal};
 ghost use Rattle.normal_form.specs.Steps.{over};
 
-use crate::node::{Node, beside, leaf, node_of, one, two};
+use crate::node::{Node, beside, node_of};
 use crate::sinking::sink_all;
 use logical_dag::{LogicOp, Logical};
 use std::alloc::{AllocError, Global};
@@ -15,7 +15,7 @@ fn set_over(alloc: Global, op: LogicOp, kid: Logical) -> Result<Logical, AllocEr
 {
     match op {
         LogicOp::Filter(e) => sink_all(alloc, e, kid),
-        op => one(alloc, op, kid),
+        op => Logical::one(alloc, op, kid),
     }
 }
 
@@ -25,7 +25,7 @@ pub fn normal_tree(alloc: Global, tree: Logical) -> Result<Logical, AllocError>
     ensures { IfOk result (λ t. tree_of t ≡ normal (tree_of tree)) }
 {
     match node_of(tree) {
-        Node::Leaf(op) => Ok(leaf(alloc, op)),
+        Node::Leaf(op) => Ok(Logical::leaf(alloc, op)),
         Node::One(op, kid) => {
             let (op, kid) = beside(op, normal_tree(alloc, kid))?;
             set_over(alloc, op, kid)
@@ -33,7 +33,7 @@ pub fn normal_tree(alloc: Global, tree: Logical) -> Result<Logical, AllocError>
         Node::Two(op, left, right) => {
             let ((op, right), left) = beside((op, right), normal_tree(alloc, left))?;
             let ((op, left), right) = beside((op, left), normal_tree(alloc, right))?;
-            two(alloc, op, left, right)
+            Logical::two(alloc, op, left, right)
         }
     }
 }

@@ -6,7 +6,7 @@ ghost use Rattle.script_trees.specs.declared.op.PairOp.TheVariants.{And};
 ghost use Rattle.normal_meaning.specs.Sinking as spec;
 ghost use Rattle.normal_form.specs.Steps.{goes_below, stopped, IsSide, under, ending, LeavesFewer};
 
-use crate::node::{Node, beside, leaf, node_of, one, two};
+use crate::node::{Node, beside, node_of};
 use crate::passing::{below, can_sink, goes_to, passes};
 use logical_dag::{LogicOp, Logical};
 use scope_expr::{Expr, PairOp};
@@ -74,11 +74,11 @@ fn stopped(alloc: Global, op: LogicOp, kid: Logical, e: Expr) -> Result<Logical,
     match op {
         LogicOp::Filter(f) => {
             let (kid, predicate) = beside(kid, both(alloc, f, e))?;
-            one(alloc, LogicOp::Filter(predicate), kid)
+            Logical::one(alloc, LogicOp::Filter(predicate), kid)
         }
         op => {
-            let (e, node) = beside(e, one(alloc, op, kid))?;
-            one(alloc, LogicOp::Filter(e), node)
+            let (e, node) = beside(e, Logical::one(alloc, op, kid))?;
+            Logical::one(alloc, LogicOp::Filter(e), node)
         }
     }
 }
@@ -111,8 +111,8 @@ fn step_over_two(
         Side::Left => Ok(Walk::Down(Above::Left(op, right), left, e)),
         Side::Right => Ok(Walk::Down(Above::Right(op, left), right, e)),
         Side::Neither => {
-            let (e, node) = beside(e, two(alloc, op, left, right))?;
-            Ok(Walk::Ended(one(alloc, LogicOp::Filter(e), node)?))
+            let (e, node) = beside(e, Logical::two(alloc, op, left, right))?;
+            Ok(Walk::Ended(Logical::one(alloc, LogicOp::Filter(e), node)?))
         }
     }
 }
@@ -124,7 +124,11 @@ fn take_step(alloc: Global, tree: Logical, e: Expr) -> Result<Walk, AllocError>
     ensures fewer { IfOk result (LeavesFewer (tree_of tree)) }
 {
     match node_of(tree) {
-        Node::Leaf(op) => Ok(Walk::Ended(one(alloc, LogicOp::Filter(e), leaf(alloc, op))?)),
+        Node::Leaf(op) => Ok(Walk::Ended(Logical::one(
+            alloc,
+            LogicOp::Filter(e),
+            Logical::leaf(alloc, op),
+        )?)),
         Node::One(op, kid) => step_over_one(alloc, op, kid, e),
         Node::Two(op, left, right) => step_over_two(alloc, op, left, right, e),
     }
@@ -136,9 +140,9 @@ fn put_back(alloc: Global, above: Above, kid: Logical) -> Result<Logical, AllocE
     ensures { IfOk result (λ t. tree_of t ≡ under above (tree_of kid)) }
 {
     match above {
-        Above::One(op) => one(alloc, op, kid),
-        Above::Left(op, right) => two(alloc, op, kid, right),
-        Above::Right(op, left) => two(alloc, op, left, kid),
+        Above::One(op) => Logical::one(alloc, op, kid),
+        Above::Left(op, right) => Logical::two(alloc, op, kid, right),
+        Above::Right(op, left) => Logical::two(alloc, op, left, kid),
     }
 }
 

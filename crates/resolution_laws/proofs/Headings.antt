@@ -121,7 +121,7 @@ stands_wide : (s : Bool) (k : ℕ) (b : Part) → length (stands s k b).cols ≡
 stands_wide true k b = length-range_with_len 0 (length b.cols)
 stands_wide false k b = refl
 
-found_wide : (all : List ℕ) (k : ℕ) (o : Option Part) → length (found all k o).cols ≡ length (or_nothing o).cols
+pub found_wide : (all : List ℕ) (k : ℕ) (o : Option Part) → length (found all k o).cols ≡ length (or_nothing o).cols
 found_wide all k None = refl
 found_wide all k (Some b) = stands_wide (is_shared all k) k b
 

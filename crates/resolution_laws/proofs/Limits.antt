@@ -63,7 +63,7 @@ any_first f x xs h = or_none (f x) (list_any f xs) h
 pub any_parts : {A : Type 0} (f : A → Bool) (xs ys : List A) → list_any f (xs ++ ys) ≡ false → (list_any f xs ≡ false) × (list_any f ys ≡ false)
 any_parts f xs ys h = or_none (list_any f xs) (list_any f ys) (sym (list_any-append f xs ys) ∙ h)
 
-at_most : (m n : ℕ) → nat_lt m n ≡ false → n ≤ m
+pub at_most : (m n : ℕ) → nat_lt m n ≡ false → n ≤ m
 at_most m n h = grind (arith, nat_tests, h)
 
 -- ---- lists of keys

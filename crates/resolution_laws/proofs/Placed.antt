@@ -207,7 +207,7 @@ module _ (ops : Operators) (all : List ℕ) (before : Before) (earlier : List St
             (keys_known (asked_by ops before (raw.Output source stream outputter stored)) u),
       )
 
-  before_next : (s : raw_statement.Statement) → IsRight s → IsBefore (after ops before s) (earlier ++ resolved_statement ops before s ∷ []) (env ++ bound all earlier env (resolved ops before s.command) ∷ [])
+  pub before_next : (s : raw_statement.Statement) → IsRight s → IsBefore (after ops before s) (earlier ++ resolved_statement ops before s ∷ []) (env ++ bound all earlier env (resolved ops before s.command) ∷ [])
   before_next s right = record {
     right = All-push IsRight before.statements s is.right right;
     alike = alike_more ops before before.statements earlier s is.alike;

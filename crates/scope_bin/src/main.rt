@@ -2,12 +2,9 @@
 //! its number.
 #![tactic(auto)]
 
-use outer_joins::{FullPairs, LeftPairs, RightPairs};
 use scope_app::{Status, scope_main, status_line, status_number};
+use scope_ops::{Uses, with_operators};
 use scope_outside::{FileStore, Store};
-use scope_shipped::{
-    InnerPairs, LogExtractor, MultiSetDifference, SplitWords, TextExtractor, TopQueries,
-};
 use std::alloc::{AllocError, Global};
 use std::env;
 use std::io::{self, Write};
@@ -15,23 +12,18 @@ use std::process::ExitCode;
 use std::rt::{Env, Files};
 use user_ops::OpSet;
 
-// The operators that read rows and make rows of one input, each in a box of its own.
+// The top call, to be made with the operators, and how it ended.
 #[derive(Drop)]
-struct Makers {
-    log: Box<LogExtractor>,
-    text: Box<TextExtractor>,
-    split: Box<SplitWords>,
-    top: Box<TopQueries>,
+struct Call<'a, S> {
+    words: &'a [String],
+    store: S,
+    status: Status,
 }
 
-// The operators of two inputs, each in a box of its own.
-#[derive(Drop)]
-struct Pairings {
-    difference: Box<MultiSetDifference>,
-    inner: Box<InnerPairs>,
-    left: Box<LeftPairs>,
-    right: Box<RightPairs>,
-    full: Box<FullPairs>,
+impl<'a, S: Store> Uses for Call<'a, S> {
+    fn use_operators(&mut self, alloc: Global, ops: &OpSet) {
+        self.status = scope_main(alloc, self.words, &mut self.store, ops);
+    }
 }
 
 fn main(rt: HostRuntime) -> ExitCode {
@@ -45,94 +37,16 @@ fn main(rt: HostRuntime) -> ExitCode {
     ExitCode::from(exit_code(&status))
 }
 
-// Makes all that the top call is handed, and calls it.
+// Makes the top call over the process's words and files.
 fn run<R: Env + Files + AllocGlobal>(rt: &R, alloc: Global) -> Result<Status, AllocError> {
     let words = words_of(rt, alloc)?;
-    let makers = make_makers(alloc)?;
-    let pairings = make_pairings(alloc)?;
-    Ok(run_over_files(rt, alloc, words.as_slice(), makers, pairings))
-}
-
-fn run_over_files<R: Files>(
-    rt: &R,
-    alloc: Global,
-    words: &[String],
-    makers: Makers,
-    pairings: Pairings,
-) -> Status {
-    let mut store = FileStore::new(alloc, rt);
-    run_over(alloc, words, &mut store, makers, pairings)
-}
-
-// Puts the operators under their names, and calls over the store. A function that makes operators out of boxes can't hand on their set, so
-// that all are put in here; it knows nothing of the store but its trait, which keeps its proof short.
-fn run_over<S: Store>(
-    alloc: Global,
-    words: &[String],
-    store: &mut S,
-    makers: Makers,
-    pairings: Pairings,
-) -> Status {
-    let Makers {
-        log,
-        text,
-        split,
-        top,
-    } = makers;
-    let Pairings {
-        difference,
-        inner,
-        left,
-        right,
-        full,
-    } = pairings;
-    let mut ops = OpSet::new(alloc);
-    let has_log = ops.put_extractor(alloc, b"LogExtractor", log);
-    let has_text = ops.put_extractor(alloc, b"TextExtractor", text);
-    let has_split = ops.put_processor(alloc, b"SplitWords", split);
-    let has_top = ops.put_reducer(alloc, b"TopQueries", top);
-    let has_difference = ops.put_combiner(alloc, b"MultiSetDifference", difference);
-    let has_inner = ops.put_combiner(alloc, b"InnerPairs", inner);
-    let has_left = ops.put_combiner(alloc, b"LeftPairs", left);
-    let has_right = ops.put_combiner(alloc, b"RightPairs", right);
-    let has_full = ops.put_combiner(alloc, b"FullPairs", full);
-    let has_makers = has_log & has_text & has_split & has_top;
-    let has_pairings = has_difference & has_inner & has_left & has_right & has_full;
-    call(alloc, words, store, &ops, has_makers & has_pairings)
-}
-
-// Calls over the set, where all operators are in it. No name stands twice there, so that a refusal is want of memory.
-fn call<S: Store>(
-    alloc: Global,
-    words: &[String],
-    store: &mut S,
-    ops: &OpSet,
-    is_whole: bool,
-) -> Status {
-    if is_whole {
-        scope_main(alloc, words, store, ops)
-    } else {
-        Status::NoMemory
-    }
-}
-
-fn make_makers(alloc: Global) -> Result<Makers, AllocError> {
-    Ok(Makers {
-        log: Box::new(alloc, LogExtractor)?,
-        text: Box::new(alloc, TextExtractor)?,
-        split: Box::new(alloc, SplitWords)?,
-        top: Box::new(alloc, TopQueries)?,
-    })
-}
-
-fn make_pairings(alloc: Global) -> Result<Pairings, AllocError> {
-    Ok(Pairings {
-        difference: Box::new(alloc, MultiSetDifference)?,
-        inner: Box::new(alloc, InnerPairs)?,
-        left: Box::new(alloc, LeftPairs)?,
-        right: Box::new(alloc, RightPairs)?,
-        full: Box::new(alloc, FullPairs)?,
-    })
+    let mut call = Call {
+        words: words.as_slice(),
+        store: FileStore::new(alloc, rt),
+        status: Status::NoMemory,
+    };
+    with_operators(alloc, &mut call)?;
+    Ok(call.status)
 }
 
 // The word, or `scope` in place of the first one, which is the program's own name.

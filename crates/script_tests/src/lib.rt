@@ -14,6 +14,8 @@ mod records;
 #[cfg(test)]
 mod sizes;
 #[cfg(test)]
+mod streams;
+#[cfg(test)]
 mod tokens;
 #[cfg(test)]
 mod trees;

@@ -42,7 +42,7 @@ fn put<V: Drop>(
 
 impl Sizes {
     /// Sizes that nothing declares.
-    pub(crate) fn new(alloc: Global) -> Sizes
+    pub fn new(alloc: Global) -> Sizes
         ensures streams { (name : List ℕ) → spec.stream_of result name ≡ None }
         ensures columns { (name col : List ℕ) → spec.column_of result name col ≡ None }
     {

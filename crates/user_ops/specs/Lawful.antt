@@ -1,5 +1,5 @@
 -- The law of an operator, over what it tells, and of all operators of a set.
-use Rattle.std.specs.Prelude.{ℕ, List, All}
+use Rattle.std.specs.Prelude.{◌≡◌, ℕ, List, length, All}
 use Rattle.scope_value.specs.declared.schema.Column.{Column}
 use Rattle.scope_value.specs.declared.value.Value.{Value}
 use Rattle.user_ops.specs.Told.{ToldExtractor, ToldProcessor, ToldReducer, ToldCombiner, Operators}
@@ -24,8 +24,16 @@ pub record IsLawfulReducer (told : ToldReducer) : Type 0 where
 pub record IsLawfulCombiner (told : ToldCombiner) : Type 0 where
   pub gives : (args : List (List ℕ)) (left right : List (List Value)) → PairGivesFitting told args left right
 
--- each operator of a set is lawful
+-- of each kind there are as many names as operators
+pub record AreNamed (ops : Operators) : Type 0 where
+  pub extractors : length ops.extractor_names ≡ length ops.extractors
+  pub processors : length ops.processor_names ≡ length ops.processors
+  pub reducers : length ops.reducer_names ≡ length ops.reducers
+  pub combiners : length ops.combiner_names ≡ length ops.combiners
+
+-- each operator of a set is lawful, and has a name
 pub record AreLawful (ops : Operators) : Type 0 where
+  pub named : AreNamed ops
   pub extractors : All IsLawfulExtractor ops.extractors
   pub processors : All IsLawfulProcessor ops.processors
   pub reducers : All IsLawfulReducer ops.reducers

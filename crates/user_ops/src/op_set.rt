@@ -33,12 +33,14 @@ pub trait Tells {
 
     ghost tells: { Self → Operators };
 
-    // Each of them keeps the law of its trait.
+    // Each of them keeps the law of its trait, and has a name.
     ghost lawful: { (ops : Self) → AreLawful (tells ops) };
 }
 
 impl Tells for OpSet {
     ghost use Rattle.std.specs.Prelude.{map, get_or};
+    ghost use Rattle.std.proofs.Common.{◌∙◌, sym};
+    ghost use Rattle.std.proofs.lemmas.List.{length-map};
     ghost use Rattle.std.proofs.lemmas.List.Elements.{All-map};
     ghost use Rattle.user_ops.specs.Lawful.{IsLawfulExtractor, IsLawfulProcessor, IsLawfulReducer, IsLawfulCombiner};
 
@@ -54,6 +56,12 @@ impl Tells for OpSet {
     } };
 
     ghost lawful = { λ s. record {
+      named = record {
+        extractors = length-map s.extractors.entries.items (λ n. n.name) ∙ sym (length-map s.extractors.entries.items (λ n. (Extractor-box n.op).told_extractor n.op.value));
+        processors = length-map s.processors.entries.items (λ n. n.name) ∙ sym (length-map s.processors.entries.items (λ n. (Processor-box n.op).told_processor n.op.value));
+        reducers = length-map s.reducers.entries.items (λ n. n.name) ∙ sym (length-map s.reducers.entries.items (λ n. (Reducer-box n.op).told_reducer n.op.value));
+        combiners = length-map s.combiners.entries.items (λ n. n.name) ∙ sym (length-map s.combiners.entries.items (λ n. (Combiner-box n.op).told_combiner n.op.value));
+      };
       extractors = All-map IsLawfulExtractor (λ n. (Extractor-box n.op).told_extractor n.op.value) s.extractors.entries.items
           (λ place n within. let op = (get_or s.extractors.entries.items place n).op in (Extractor-box op).extractor_law op.value);
       processors = All-map IsLawfulProcessor (λ n. (Processor-box n.op).told_processor n.op.value) s.processors.entries.items

@@ -1,0 +1,4 @@
+mod Places
+mod Agree
+mod Standing
+mod Sources

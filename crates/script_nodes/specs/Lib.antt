@@ -1,0 +1,4 @@
+pub mod Made
+pub mod Over
+pub mod Rises
+pub mod Steps
