@@ -1,0 +1,5 @@
+mod LeafTrees
+mod Behind
+mod Commands
+mod Sources
+mod Shared

@@ -1,0 +1,6 @@
+mod Built
+mod Orders
+mod Trees
+mod Outs
+mod Whole
+mod Ready
