@@ -1,77 +1,57 @@
 -- What each status of a call says of the store before it and after it.
-use Rattle.std.specs.Prelude.{◌≡◌, ℕ, List, true, false}
-use Rattle.scope_outside.specs.State.{StoreState, Files, OnFiles}
-use Rattle.scope_outside.specs.Answers.{IsFault, IsMiss, IsOpenAt, with_file}
+use Rattle.std.specs.Prelude.{◌≡◌, ◌⊎◌, ℕ, List, [], ◌∷◌, ◌++◌, Option, Some, None, true, false}
+use Rattle.scope_outside.specs.State.{StoreState, OnFiles}
+use Rattle.scope_outside.specs.Answers.{IsFault, IsMiss, IsOpenAt}
+use Rattle.scope_words.specs.Words.{Reading, reading_of}
 use Rattle.user_ops.specs.Told.{Operators}
-use Rattle.scope_app.specs.declared.status.ScriptPlace.{ScriptPlace}
+use Rattle.scope_streams.specs.Parts.{refuses}
+use Rattle.scope_streams.specs.Ends.{with_files}
 use Rattle.scope_app.specs.declared.status.Status.{Status}
 use Rattle.scope_app.specs.declared.status.Status.TheVariants as status
-use Rattle.scope_app.specs.Run.{Given, Reads, Writes, Lacks, CalledFor}
+use Rattle.scope_app.specs.Steps.{Given, IsNoText, LeavesAt, BindsNot, StoresStreams, SizesFail, EndsAt, Reads, Lacks, Writes}
 
--- a fact at one status alone
-abbrev pub OnDone : Status → Type 0 → Type 0
-OnDone status.Done P = P
-OnDone s P = Unit {0}
-
-abbrev pub OnNoMemory : Status → Type 0 → Type 0
-OnNoMemory status.NoMemory P = P
-OnNoMemory s P = Unit {0}
-
-abbrev pub OnNotText : Status → Type 0 → Type 0
-OnNotText status.NotText P = P
-OnNotText s P = Unit {0}
-
-abbrev pub OnNotBuilt : Status → Type 0 → Type 0
-OnNotBuilt status.NotBuilt P = P
-OnNotBuilt s P = Unit {0}
-
-abbrev pub IfReadFault : Status → (List ℕ → Type 0) → Type 0
-IfReadFault (status.ReadFault name) P = P name
-IfReadFault s P = Unit {0}
-
-abbrev pub IfNoStream : Status → (List ℕ → Type 0) → Type 0
-IfNoStream (status.NoStream name) P = P name
-IfNoStream s P = Unit {0}
-
-abbrev pub IfScriptFault : Status → (ScriptPlace → Type 0) → Type 0
-IfScriptFault (status.ScriptFault place) P = P place
-IfScriptFault s P = Unit {0}
-
-abbrev pub IfRowFault : Status → (List ℕ → ℕ → ℕ → Type 0) → Type 0
-IfRowFault (status.RowFault name part at) P = P name part at
-IfRowFault s P = Unit {0}
-
-abbrev pub IfWriteFault : Status → (List ℕ → Type 0) → Type 0
-IfWriteFault (status.WriteFault name) P = P name
-IfWriteFault s P = Unit {0}
-
--- a fact of what the call is given, where the files are told
-abbrev pub OnGiven : List (List ℕ) → Operators → StoreState → (Given → Type 0) → Type 0
-OnGiven words ops old P = OnFiles old (λ files. P (record { words = words; ops = ops; files = files }))
-
--- the output stands whole, with the text that the words call for, and nothing else changed
-abbrev pub HasWritten : List (List ℕ) → Operators → StoreState → StoreState → Type 0
-HasWritten words ops old new = (name text : List ℕ) × (new ≡ record old { files = with_file old.files name text }) × OnGiven words ops old (λ g. Writes g name text)
-
--- a read of the name failed, which the words have read, and no file changed
-abbrev pub FailedToRead : List (List ℕ) → Operators → List ℕ → StoreState → StoreState → Type 0
-FailedToRead words ops name old new = IsFault name false old new × (new.files ≡ old.files) × OnGiven words ops old (λ g. Reads g name)
-
--- a read of the name found nothing, it being the first name read that isn't in the files, and no file changed
-abbrev pub FoundNoStream : List (List ℕ) → Operators → List ℕ → StoreState → StoreState → Type 0
-FoundNoStream words ops name old new = IsMiss name old new × (new.files ≡ old.files) × OnGiven words ops old (λ g. Lacks g name)
-
--- the write of the output failed, and no other name changed
-abbrev pub FailedToWrite : List (List ℕ) → Operators → List ℕ → StoreState → StoreState → Type 0
-FailedToWrite words ops name old new = IsFault name true old new × IsOpenAt name old.files new.files × OnGiven words ops old (λ g. (text : List ℕ) × Writes g name text)
+-- a fact of what a script of this name, with this file of sizes, is given, where the files are told
+abbrev pub OnScript : Operators → StoreState → List ℕ → Option (List ℕ) → (Given → Type 0) → Type 0
+OnScript ops old script sizes P = OnFiles old (λ files. P (record { ops = ops; files = files; script = script; sizes = sizes }))
 
 -- nothing happened to the store, and this is why the call ended
-abbrev pub Stopped : List (List ℕ) → Operators → StoreState → StoreState → (Given → Type 0) → Type 0
-Stopped words ops old new P = (new ≡ old) × OnGiven words ops old P
+abbrev pub Stopped : Operators → StoreState → StoreState → List ℕ → Option (List ℕ) → (Given → Type 0) → Type 0
+Stopped ops old new script sizes P = (new ≡ old) × OnScript ops old script sizes P
 
--- the status is the one that the words call for, or a want of memory, or a failed read or write
-abbrev pub IsCalledFor : Given → Status → Type 0
-IsCalledFor g status.NoMemory = Unit {0}
-IsCalledFor g (status.ReadFault name) = Unit {0}
-IsCalledFor g (status.WriteFault name) = Unit {0}
-IsCalledFor g s = CalledFor g s
+-- the texts are the first ones of those that are to be written
+abbrev pub AreFirst : Given → List (List ℕ × List ℕ) → Type 0
+AreFirst g front = (front ≡ []) ⊎ ((rest : List (List ℕ × List ℕ)) × Writes g (front ++ rest))
+
+-- all that a status says of the store before the call of a script and after it
+abbrev pub ScriptEnded : Operators → List ℕ → Option (List ℕ) → StoreState → StoreState → Status → Type 0
+ScriptEnded ops script sizes old new status.Done =
+    (texts : List (List ℕ × List ℕ)) × (new ≡ record old { files = with_files old.files texts }) × OnScript ops old script sizes (λ g. Writes g texts)
+ScriptEnded ops script sizes old new status.NoMemory =
+    (front : List (List ℕ × List ℕ)) × (new ≡ record old { files = with_files old.files front }) × OnScript ops old script sizes (λ g. AreFirst g front)
+ScriptEnded ops script sizes old new (status.ReadFault name) =
+    IsFault name false old new × (new.files ≡ old.files) × OnScript ops old script sizes (λ g. Reads g name)
+ScriptEnded ops script sizes old new (status.NoStream name) =
+    IsMiss name old new × (new.files ≡ old.files) × OnScript ops old script sizes (λ g. Lacks g name)
+ScriptEnded ops script sizes old new status.NotText = Stopped ops old new script sizes IsNoText
+ScriptEnded ops script sizes old new (status.ScriptFault place) = Stopped ops old new script sizes (λ g. LeavesAt g place)
+ScriptEnded ops script sizes old new (status.BindFault fault) = Stopped ops old new script sizes (λ g. BindsNot g fault)
+ScriptEnded ops script sizes old new (status.SizesFault fault) = Stopped ops old new script sizes (λ g. SizesFail g fault.at)
+ScriptEnded ops script sizes old new (status.RowFault name part at) = Stopped ops old new script sizes (λ g. EndsAt g (refuses name part at))
+ScriptEnded ops script sizes old new (status.WriteFault name) =
+    (front : List (List ℕ × List ℕ)) × (text : List ℕ) × IsFault name true old new × IsOpenAt name (with_files old.files front) new.files
+    × OnScript ops old script sizes (λ g. (rest : List (List ℕ × List ℕ)) × Writes g (front ++ (name, text) ∷ rest))
+ScriptEnded ops script sizes old new status.NotBuilt = Stopped ops old new script sizes StoresStreams
+
+-- words without a reading end the call at once
+abbrev pub WordsEnded : StoreState → StoreState → Status → Type 0
+WordsEnded old new status.NotBuilt = new ≡ old
+WordsEnded old new status.NoMemory = new ≡ old
+WordsEnded old new s = ⊥
+
+abbrev pub ReadingEnded : Operators → StoreState → StoreState → Status → Option Reading → Type 0
+ReadingEnded ops old new s None = WordsEnded old new s
+ReadingEnded ops old new s (Some r) = ScriptEnded ops r.script r.sizes old new s
+
+-- all that a status says of a call with these words
+abbrev pub Ended : List (List ℕ) → Operators → StoreState → StoreState → Status → Type 0
+Ended words ops old new s = ReadingEnded ops old new s (reading_of words)

@@ -1,6 +1,6 @@
 pub mod Ends
-pub mod Plans
 pub mod Report
-pub mod Run
 pub mod ScriptText
+pub mod Shown
 pub mod Stages
+pub mod Steps

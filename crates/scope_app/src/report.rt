@@ -1,10 +1,12 @@
 // What is said of a status: its number, and its line on standard error.
 ghost use Rattle.std.specs.Prelude.{◌≡◌, ◌++◌, flat_map, OnOk, OnErr};
-ghost use Rattle.scope_app.specs.Report.{number_of, line_of, place_line, row_line};
+ghost use Rattle.scope_app.specs.Report.{number_of, line_of, place_line, bind_line, sizes_line, row_line, cause_name, limit_name};
 ghost use Rattle.std.specs.Fmt.{decimal};
 
 use crate::status::{ScriptPlace, Status};
+use binding_causes::{BindCause, BindFault, LimitKind};
 use itoa::Buffer;
+use size_model::SizesFault;
 use std::alloc::AllocError;
 
 /// The exit number of the program.
@@ -18,6 +20,8 @@ pub fn status_number(status: &Status) -> u32
         Status::NoStream(_) => 4,
         Status::NotText => 5,
         Status::ScriptFault(_) => 6,
+        Status::BindFault(_) => 7,
+        Status::SizesFault(_) => 8,
         Status::RowFault { .. } => 9,
         Status::WriteFault(_) => 12,
         Status::NotBuilt => 20,
@@ -36,6 +40,8 @@ pub fn status_line(status: &Status, out: &mut Vec<u8>) -> Result<(), AllocError>
         Status::NoStream(name) => append_all(&[b"scope: no stream ", name.as_slice()], out),
         Status::NotText => out.extend_from_slice(b"scope: script is not UTF-8"),
         Status::ScriptFault(place) => script_line(*place, out),
+        Status::BindFault(fault) => bind_line(*fault, out),
+        Status::SizesFault(fault) => sizes_line(*fault, out),
         Status::RowFault { name, part, at } => record_line(name.as_slice(), *part, *at, out),
         Status::WriteFault(name) => append_all(&[b"scope: cannot write ", name.as_slice()], out),
         Status::NotBuilt => out.extend_from_slice(b"scope: not built"),
@@ -65,6 +71,66 @@ fn script_line(place: ScriptPlace, out: &mut Vec<u8>) -> Result<(), AllocError>
             out,
         ),
     }
+}
+
+// The name of a limit, as a cause.
+fn limit_name(kind: LimitKind) -> &'static [u8]
+    ensures { result.now ≡ limit_name kind }
+{
+    match kind {
+        LimitKind::Statements => b"Limit(Statements)",
+        LimitKind::Columns => b"Limit(Columns)",
+        LimitKind::Joins => b"Limit(Joins)",
+        LimitKind::Keys => b"Limit(Keys)",
+        LimitKind::Shared => b"Limit(Shared)",
+        LimitKind::Args => b"Limit(Args)",
+    }
+}
+
+// The name of a cause.
+fn cause_name(cause: BindCause) -> &'static [u8]
+    ensures { result.now ≡ cause_name cause }
+{
+    match cause {
+        BindCause::UnknownName => b"UnknownName",
+        BindCause::DuplicateName => b"DuplicateName",
+        BindCause::UnknownOperator => b"UnknownOperator",
+        BindCause::UnknownColumn => b"UnknownColumn",
+        BindCause::AmbiguousColumn => b"AmbiguousColumn",
+        BindCause::TypeMismatch => b"TypeMismatch",
+        BindCause::SchemaRefused => b"SchemaRefused",
+        BindCause::TopWithoutOrder => b"TopWithoutOrder",
+        BindCause::Limit(kind) => limit_name(kind),
+    }
+}
+
+// Appends the line of a script that binds to nothing.
+fn bind_line(fault: BindFault, out: &mut Vec<u8>) -> Result<(), AllocError>
+    ensures ok { OnOk result (out.new.items ≡ out.old.items ++ bind_line fault) }
+    ensures err { OnErr result (out.new.items ≡ out.old.items) }
+{
+    let mut number = Buffer::new();
+    append_all(
+        &[
+            b"scope: statement ",
+            number.format(u64::from(fault.statement)).as_bytes(),
+            b": ",
+            cause_name(fault.cause),
+        ],
+        out,
+    )
+}
+
+// Appends the line of a file of sizes that is refused.
+fn sizes_line(fault: SizesFault, out: &mut Vec<u8>) -> Result<(), AllocError>
+    ensures ok { OnOk result (out.new.items ≡ out.old.items ++ sizes_line fault) }
+    ensures err { OnErr result (out.new.items ≡ out.old.items) }
+{
+    let mut number = Buffer::new();
+    append_all(
+        &[b"scope: sizes: record ", number.format(fault.at).as_bytes()],
+        out,
+    )
 }
 
 // Appends the line of a refused record.

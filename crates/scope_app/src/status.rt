@@ -1,7 +1,9 @@
 // How a call of the program ended.
+use binding_causes::BindFault;
 use scope_lexer::LexFault;
 use scope_syntax::SyntaxFault;
 use scope_value::Cell;
+use size_model::SizesFault;
 
 /// Where a script leaves the language.
 #[derive(Clone, Copy)]
@@ -27,10 +29,14 @@ pub enum Status {
     NotText,
     /// The script is outside the language.
     ScriptFault(ScriptPlace),
+    /// The script binds to nothing.
+    BindFault(BindFault),
+    /// A record of the file of sizes is outside its form.
+    SizesFault(SizesFault),
     /// The extractor refused a record: the first it refuses, counted from 1, in that part, counted from 0.
     RowFault { name: Cell, part: u32, at: u64 },
     /// The store failed to write the stream.
     WriteFault(Cell),
-    /// The words or the script are of no form that runs yet.
+    /// The words have no reading, or the script declares how a stream is stored, which doesn't run yet.
     NotBuilt,
 }

@@ -1,15 +1,21 @@
 // The operators of the program, put into a set.
+ghost use Rattle.std.specs.Prelude.{◌≡◌, true};
+ghost use Rattle.binding_laws.specs.There.{TellsOuterJoins};
+ghost use Rattle.scope_ops.specs.There.{HasOuterJoins};
+
 use outer_joins::{FullPairs, LeftPairs, RightPairs};
 use scope_shipped::{
     InnerPairs, LogExtractor, MultiSetDifference, SplitWords, TextExtractor, TopQueries,
 };
 use std::alloc::{AllocError, Global};
-use user_ops::OpSet;
+use user_ops::{OpSet, Tells};
 
 /// What is done with the operators of the program.
 pub trait Uses {
-    /// Does it, with the operators.
-    fn use_operators(&mut self, alloc: Global, ops: &OpSet);
+    /// Does it, with the operators. The combiners of outer joins are there, and what stands under the name of one tells what it tells.
+    fn use_operators(&mut self, alloc: Global, ops: &OpSet)
+        requires has_outer { HasOuterJoins (⟦<OpSet as Tells>⟧.tells ops.now) }
+        requires tells_outer { TellsOuterJoins (⟦<OpSet as Tells>⟧.tells ops.now) };
 }
 
 // The operators that read rows and make rows of one input, each in a box of its own.
@@ -80,7 +86,9 @@ fn lend_whole<U: Uses>(
     ops: &OpSet,
     is_whole: bool,
     user: &mut U,
-) -> Result<(), AllocError> {
+) -> Result<(), AllocError>
+    requires { is_whole ≡ true → HasOuterJoins (⟦<OpSet as Tells>⟧.tells ops.now) × TellsOuterJoins (⟦<OpSet as Tells>⟧.tells ops.now) }
+{
     if !is_whole {
         return Err(AllocError);
     }

@@ -1,8 +1,0 @@
-use Rattle.std.proofs.Common.{◌≡◌, subst}
-use Rattle.scope_app.proofs.plan.takes.Goals as goal
-
--- the object in the box is the one that is lent
-pub returns : goal.returns
-returns g c =
-    subst (λ op. c.accepts.result ≡ ((goal.Extractor-dyn g op).told_extractor op.1).takes c.args.columns.now c.args.args.now)
-    c.deref_box-1.ensures.1 c.accepts.ensures

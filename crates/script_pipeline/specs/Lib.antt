@@ -1,2 +1,0 @@
-pub mod Pipeline
-pub mod Results
