@@ -1,6 +1,7 @@
 #!/usr/bin/env bash
 # Seconds and peak memory of the built program on scripts of about 256 KiB and just below 1 MiB, the longest that there may
-# be: many SELECTs, the last with the deepest brackets. Such a script is in the grammar, and is none that runs yet.
+# be: many SELECTs, the last with the deepest brackets. Such a script is in the grammar, and has more
+# statements than may bind.
 set -euo pipefail
 top="$(cd "$(dirname "${BASH_SOURCE[0]}")/.." && pwd)"
 folder="$(mktemp -d)"
